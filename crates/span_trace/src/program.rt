@@ -98,8 +98,9 @@ fn replay<X: Files + AllocGlobal + Clone + Drop, R: Read>(
         mut trace,
         callsites,
         folders,
+        mut shelf,
     } = Stage::set_up(rt, setup)?;
-    let replies = run_steps(alloc, &mut trace, callsites.as_slice(), steps)?;
+    let replies = run_steps(alloc, &mut trace, callsites.as_slice(), &mut shelf, steps)?;
     Ok(Answer {
         replies,
         trace,

@@ -1,10 +1,11 @@
 //! The steps of a script, run on a trace.
 
-use crate::lines::{CallsiteLine, NamedValue, RecordLine, StepLine};
+use crate::lines::{CallsiteLine, NamedValue, RecordLine, StepLine, SwapLine};
 use crate::stack::LogStack;
-use span_tracing::{FieldValue, RecordCall, Reply, SpanName, Step, Trace};
+use span_tracing::{FieldValue, RecordCall, Refusal, Reply, SpanName, Step, Trace};
 use std::alloc::{AllocError, Global};
 use std::rt::Files;
+use tracing_core::LevelFilter;
 
 /// The replies so far, and which callsite each span is of.
 #[derive(Debug, Drop)]
@@ -55,11 +56,13 @@ impl Replies {
     }
 }
 
-/// Runs the steps in order. Before a record those so far are run, since their replies tell the callsite of its span.
+/// Runs the steps in order. Before a record those so far are run, since their replies tell the callsite of its span, and so before a swap,
+/// which is no step of a run.
 pub(crate) fn run_steps<X: Files + AllocGlobal + Clone + Drop>(
     alloc: Global,
     trace: &mut Trace<LogStack<X>>,
     callsites: &[CallsiteLine],
+    shelf: &mut [LevelFilter],
     lines: Vec<StepLine>,
 ) -> Result<Vec<Reply>, AllocError> {
     let mut told = Replies::new(alloc, trace.stack_count())?;
@@ -72,10 +75,29 @@ pub(crate) fn run_steps<X: Files + AllocGlobal + Clone + Drop>(
                 let callsite = callsite_of(callsites, told.site_of(record.span));
                 steps.push(Step::Record(record_call(alloc, callsite, record)?))?;
             }
+            StepLine::Swap(swap) => {
+                told.run(trace, &mut steps)?;
+                told.replies.push(swapped(trace, shelf, swap))?;
+            }
         }
     }
     told.run(trace, &mut steps)?;
     Ok(told.replies)
+}
+
+/// Lets the filter of an output and one of the shelf change places.
+fn swapped<X: Files + AllocGlobal + Clone + Drop>(
+    trace: &mut Trace<LogStack<X>>,
+    shelf: &mut [LevelFilter],
+    swap: SwapLine,
+) -> Reply {
+    match shelf.get_mut(swap.shelf) {
+        Some(filter) => trace.swap_filter(swap.output, filter),
+        None => {
+            let refusal = trace.output_refusal(swap.output);
+            Reply::Refused(refusal.unwrap_or(Refusal::UnknownShelf))
+        }
+    }
 }
 
 /// The first callsite of that id.

@@ -6,7 +6,7 @@ use crate::stack::{LogStack, stack_of};
 use span_tracing::{Refusal, Trace};
 use std::alloc::{AllocError, Global};
 use std::rt::Files;
-use tracing_core::{FieldSet, Identifier, Metadata};
+use tracing_core::{FieldSet, Identifier, LevelFilter, Metadata};
 
 /// A trace that is set up, its callsites' lines, and for each sink the name under which its files are shown, where they are in
 /// memory: of the first stack's sinks in order, then of the second's, and so on.
@@ -15,6 +15,8 @@ pub(crate) struct Stage<X: Files + AllocGlobal + Clone + Drop> {
     pub(crate) trace: Trace<LogStack<X>>,
     pub(crate) callsites: Vec<CallsiteLine>,
     pub(crate) folders: Vec<Option<String>>,
+    /// Filters that steps may let change places with those of outputs.
+    pub(crate) shelf: Vec<LevelFilter>,
 }
 
 impl<X: Files + AllocGlobal + Clone + Drop> Stage<X> {
@@ -29,6 +31,7 @@ impl<X: Files + AllocGlobal + Clone + Drop> Stage<X> {
             trace: Trace::new(alloc),
             callsites: Vec::new(alloc),
             folders: Vec::new(alloc),
+            shelf: Vec::new(alloc),
         };
         let mut number: u64 = 0;
         for call in setup {
@@ -45,6 +48,7 @@ impl<X: Files + AllocGlobal + Clone + Drop> Stage<X> {
             Setup::Stack(line) => self.add_stack(rt, line),
             Setup::Callsite(line) => self.add_callsite(rt.alloc(), line),
             Setup::Lane(line) => self.add_lane(line).map_err(Fault::Refused),
+            Setup::Shelf(filter) => Ok(self.shelf.push(filter)?),
         }
     }
 

@@ -1,5 +1,23 @@
 -- The first stack of a trace with one lane, made the global default.
-use Rattle.std.proofs.Common.{◌≡◌, ℕ, inl, inr, true, false, List, [], ◌∷◌, Option, Some, None, Ok, refl, ap, sym, ◌∙◌, subst}
+use Rattle.std.proofs.Common.{◌≡◌, ℕ, inl, inr, true, false, List, [], ◌∷◌, length, map, Option, Some, None, Ok, refl, ap, sym, ◌∙◌, subst}
+use Rattle.std.proofs.lemmas.List.{length-map}
+use Rattle.tracing_core_moments.specs.declared.moment.Moment.{Moment}
+use Rattle.tracing_appender_rolling.specs.folders.Contents.{Contents}
+use Rattle.span_registry_layers_layers.specs.declared.filter.Filter.{Ghosts as FilterGhosts}
+use Rattle.span_registry_layers_layers.specs.declared.layer.Layer.{Ghosts as LayerGhosts}
+use Rattle.event_formatter.specs.declared.formats.fields.Fields.{Fields}
+use Rattle.event_formatter.specs.declared.formats.format.Format.{Format}
+use Rattle.event_formatter.specs.declared.formats.line_format.LineFormat.{LineFormat}
+use Rattle.event_formatter.specs.declared.formats.timer.Timer.{Timer}
+use Rattle.span_tracing_outputs.specs.OutputSettings.{outputs_in}
+use Rattle.span_tracing_outputs.specs.SinkLines.{cleared_row}
+use Rattle.span_tracing_outputs.specs.TraceStacks.{TraceStackValue}
+use Rattle.event_formatter.specs.fmt_layer.Threads.{PlainLane}
+use Rattle.span_tracing_outputs.specs.files.OpenedStack.{OpensRouting, OpensStack, Pairs, routing_of}
+use Rattle.span_tracing_outputs.specs.files.Settings.{Shown}
+use Rattle.span_tracing_outputs.specs.sinks.Routed.{Routed}
+use Rattle.span_tracing_outputs.specs.declared.files.output_spec.OutputSpec.{OutputSpec}
+use Rattle.span_tracing_outputs.specs.declared.sinks.sink.RollingSink.{RollingSink}
 use Rattle.tracing_core_fields.specs.declared.requests.subscriber.Subscriber.{Ghosts}
 use Rattle.tracing_core.specs.CacheRefresh.{Formed}
 use Rattle.tracing_core.specs.Commands.{living}
@@ -88,21 +106,23 @@ module _ {T : Type 0} (s : Ghosts T) (outputs_in : T → ℕ) where
       )
 
   -- the first stack of a trace with one lane
-  first_added : (thread : PlainThread) (x : T) (handle : ℕ) (v : StateValue T) → AddGives s outputs_in (with_thread new_state thread) x (Ok handle) v →
+  first_added : (thread : PlainThread) (x : T) (handle : ℕ) (v : StateValue T) → AddGives s outputs_in (with_thread new_state thread) x
+      (Ok handle) v →
       (handle ≡ 0) × ((y : T) × (top : Option ℕ) × (v ≡ first_state thread (outputs_in x) y top v.hub.greatest))
   first_added thread x handle v (number, (told, (z, moved, formed)), is) =
       let first = formed_first z v.hub formed in
       (number, (first.0, first.1, is ∙ ap (first_on thread (outputs_in x)) first.2))
 
   module _ (registry_of : T → RegistryValue) (set_of : T → ℕ → Setting → T) where
-    set_first : (thread : PlainThread) (count : ℕ) (y : T) (top : Option ℕ) (greatest handle : ℕ) (reply : Reply) (w : StateValue T) → handle ≡ 0 →
+    set_first : (thread : PlainThread) (count : ℕ) (y : T) (top : Option ℕ) (greatest handle : ℕ) (reply : Reply) (w : StateValue T) →
+        handle ≡ 0 →
         StepGives s registry_of set_of (first_state thread count y top greatest) (GlobalStep handle) reply w →
         (reply ≡ Done) × (w ≡ opened_state thread count y top greatest)
     set_first thread count y top greatest handle reply w first step =
         subst (λ (k : ℕ). StepGives s registry_of set_of (first_state thread count y top greatest) (GlobalStep k) reply w) first step
 
     -- Made the global default, it is reached, and there is no other.
-    pub record Opens (thread : PlainThread) (v : StateValue T) (handle : ℕ) (reply : Reply) (w : StateValue T) : Type 0 where
+    pub record Opens (thread : PlainThread) (x : T) (v : StateValue T) (handle : ℕ) (reply : Reply) (w : StateValue T) : Type 0 where
       pub count : ℕ
       pub stack : T
       pub hint : Option ℕ
@@ -110,10 +130,12 @@ module _ {T : Type 0} (s : Ghosts T) (outputs_in : T → ℕ) where
       pub added : v ≡ first_state thread count stack hint greatest
       pub done : reply ≡ Done
       pub set : w ≡ opened_state thread count stack hint greatest
+      pub outputs : w.outputs ≡ outputs_in x ∷ []
 
     pub opens : (thread : PlainThread) (x : T) (handle : ℕ) (v : StateValue T) (reply : Reply) (w : StateValue T) →
-        AddGives s outputs_in (with_thread new_state thread) x (Ok handle) v → StepGives s registry_of set_of v (GlobalStep handle) reply w →
-        Opens thread v handle reply w
+        AddGives s outputs_in (with_thread new_state thread) x (Ok handle) v → StepGives s registry_of set_of v
+        (GlobalStep handle) reply w →
+        Opens thread x v handle reply w
     opens thread x handle v reply w adds step =
         let first = first_added thread x handle v adds in
         let set = set_first thread (outputs_in x) first.1.0 first.1.1 v.hub.greatest handle reply w first.0
@@ -126,19 +148,21 @@ module _ {T : Type 0} (s : Ghosts T) (outputs_in : T → ℕ) where
           added = first.1.2;
           done = set.0;
           set = set.1;
+          outputs = ap (λ (u : StateValue T). u.outputs) set.1;
         }
 
     -- of a trace that was new before
     pub opened : (thread : PlainThread) (x : T) (handle : ℕ) (fresh before v : StateValue T) (reply : Reply) (w : StateValue T) →
         fresh ≡ new_state → before ≡ with_thread fresh thread → AddGives s outputs_in before x (Ok handle) v →
-        StepGives s registry_of set_of v (GlobalStep handle) reply w → Opens thread v handle reply w
+        StepGives s registry_of set_of v (GlobalStep handle) reply w → Opens thread x v handle reply w
     opened thread x handle fresh before v reply w new is adds step =
         opens thread x handle v reply w
-        (subst (λ (u : StateValue T). AddGives s outputs_in u x (Ok handle) v) (is ∙ ap (λ (u : StateValue T). with_thread u thread) new) adds) step
+        (subst (λ (u : StateValue T). AddGives s outputs_in u x (Ok handle) v) (is ∙ ap (λ
+        (u : StateValue T). with_thread u thread) new) adds) step
 
-    pub same_stack : (thread : PlainThread) (v : StateValue T) (handle : ℕ) (reply : Reply) (w : StateValue T) →
-        Opens thread v handle reply w → (number : ℕ) → number ≡ 0 → stack_in v number ≡ stack_in w 0
-    same_stack thread v handle reply w o number first =
+    pub same_stack : (thread : PlainThread) (x : T) (v : StateValue T) (handle : ℕ) (reply : Reply) (w : StateValue T) →
+        Opens thread x v handle reply w → (number : ℕ) → number ≡ 0 → stack_in v number ≡ stack_in w 0
+    same_stack thread x v handle reply w o number first =
         ap (λ (u : StateValue T). stack_in u number) o.added
         ∙ ap (λ (k : ℕ). stack_in (first_state thread o.count o.stack o.hint o.greatest) k) first
         ∙ sym (ap (λ (u : StateValue T). stack_in u 0) o.set)
@@ -148,3 +172,22 @@ module _ {N E F S : Type 0} where
       w ≡ opened_state thread count y top greatest → ReachesFirst w
   reaches_first thread count w y top greatest is = subst (λ (u : Traced N E F S). ReachesFirst u) (sym is)
       (record { given = refl; lanes = refl; default = refl; reached = refl; handles = refl; guards = refl })
+
+same_length : {A B : Type 0} (r : A → B → Type 0) (xs : List A) (ys : List B) → Pairs r xs ys → length ys ≡ length xs
+same_length r [] [] pairs = refl
+same_length r [] (y ∷ ys) pairs = absurd pairs
+same_length r (x ∷ xs) [] pairs = absurd pairs
+same_length r (x ∷ xs) (y ∷ ys) pairs = let later = same_length r xs ys pairs.1 in cc
+
+module _ {F D : Type 0} (contents : D → Option Contents) (failed : D → ℕ) (g : FilterGhosts F) (h : LayerGhosts Shown) (m : Moment)
+    (lanes : List PlainLane) where
+  -- an opened stack has as many outputs as were asked for
+  pub opened_count : (specs : List (OutputSpec F D))
+      (made : TraceStackValue Fields (Format LineFormat Timer) F (Routed (RollingSink D))) →
+      OpensStack contents failed g h m lanes specs made → outputs_in made ≡ length specs
+  opened_count specs made o =
+      ap (λ (x : TraceStackValue Fields (Format LineFormat Timer) F (Routed (RollingSink D))). length x.stack.rows) o.paired.1
+      ∙ length-map o.stack.rows cleared_row
+      ∙ sym o.paired.0
+      ∙ same_length (OpensRouting contents failed m) (map routing_of specs) made.sinks o.sinks
+      ∙ length-map specs routing_of

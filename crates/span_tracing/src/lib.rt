@@ -46,6 +46,7 @@ pub use span_tracing_laws::runs_follow;
 pub use span_tracing_laws::setup_follows;
 pub use span_tracing_laws::skipping_misses_nothing;
 pub use span_tracing_laws::steps_follow;
+pub use span_tracing_laws::traces_stay_counted;
 pub use span_tracing_outputs::EitherFolder;
 pub use span_tracing_outputs::FileStack;
 pub use span_tracing_outputs::LaneThread;

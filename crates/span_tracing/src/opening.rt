@@ -1,9 +1,10 @@
 //! A trace with its outputs, in one call.
-ghost use Rattle.std.specs.Prelude.{◌≡◌, ◌∷◌, [], Err, IfOk, None, true, false};
+ghost use Rattle.std.specs.Prelude.{◌≡◌, ◌∷◌, [], Err, IfOk, None, length, true, false};
 ghost use Rattle.tracing_core_fields.specs.requests.Lists.{Every};
 ghost use Rattle.tracing_core_moments.specs.Moments.{is_moment};
 ghost use Rattle.span_tracing.specs.OpenedTrace.{HasOutputs, ReachesFirst};
-ghost use Rattle.span_tracing_laws.specs.runs.StepFollows.{TraceIsReady};
+ghost use Rattle.span_tracing_laws.specs.runs.StepFollows.{TraceIsReady, skeleton_of};
+ghost use Rattle.span_tracing_skeleton.specs.Counting.{IsCounted};
 ghost use Rattle.span_tracing_steps.specs.States.{stack_in};
 ghost use Rattle.span_tracing_outputs.specs.files.OpenedStack.{Answers, of_all, outputs_refusal};
 ghost use Rattle.span_tracing_outputs.specs.files.OpenRefusals.{IsRouted, NamesAnswer};
@@ -13,7 +14,7 @@ use crate::laws::traces_start_ready;
 use crate::trace::Trace;
 use event_formatter::{Fields, Format, LineFormat, Timer};
 use span_registry_layers_layers::Filter;
-use span_tracing_laws::setup_follows;
+use span_tracing_laws::{setup_follows, traces_stay_counted};
 use span_tracing_outputs::{
     FileStack, Lines, OpenStackError, OutputSpec, RollingSink, RoutedSinks, open_stack,
 };
@@ -51,6 +52,11 @@ pub fn open_trace<F: Filter, D: Folder>(
     ensures opened { Every (λ (spec : OutputSpec F D). F.honest spec.filter) outputs.items →
         IfOk result (λ trace. HasOutputs D.contents D.failed ⟦<F as Filter>⟧ ⟦<Lines as span_registry_layers_layers::Layer>⟧ moment
         outputs.items (stack_in trace 0)) }
+    // Its outputs have the numbers from 0 to below their count.
+    ensures outputs { IfOk result (λ trace. trace.outputs ≡ length outputs.items ∷ []) }
+    // With honest filters its stack is held by as many as it counts.
+    ensures counted { Every (λ (spec : OutputSpec F D). F.honest spec.filter) outputs.items →
+        IfOk result (λ trace. IsCounted (skeleton_of trace)) }
     // No callsite is registered.
     ensures bare { IfOk result (λ trace. trace.hub.callsites ≡ []) }
     // The lane reaches the stack, which is the only one: it is the global default, and has a handle. There is no guard.
@@ -60,6 +66,7 @@ pub fn open_trace<F: Filter, D: Folder>(
 {
     setup_follows::<Fields, Format<LineFormat, Timer>, F, RoutedSinks<RollingSink<D>>>();
     traces_start_ready::<Fields, Format<LineFormat, Timer>, F, RoutedSinks<RollingSink<D>>>();
+    traces_stay_counted::<Fields, Format<LineFormat, Timer>, F, RoutedSinks<RollingSink<D>>>();
     let stack = open_stack(alloc, outputs, moment)?;
     let mut trace = Trace::new(alloc);
     let Ok(_lane) = trace.thread(None, 1) else {

@@ -145,8 +145,8 @@ impl<N: FormatFields + Drop, E: FormatEvent, F: Filter, S: LineSink> Trace<Trace
         self.parts.release(handle)
     }
 
-    /// Sets whether the lines of an output, and the texts of spans that are made from now on, have styles. Texts that an open span has
-    /// already stay as they are. Outputs are numbered from 0 through all stacks, in the order in which they were added. Refused for an
+    /// Sets whether the full and compact lines of an output, and the texts of spans that are made from now on, have styles. Texts that an
+    /// open span has already stay as they are. Outputs are numbered from 0 through all stacks, in the order in which they were added. Refused for an
     /// output that isn't there (`NoOutput`), and for one of a released stack. Takes no memory.
     pub fn set_ansi(&mut self, output: usize, has_styles: bool) -> Reply
         ensures { IsStep ⟦<TraceStack<N, E, F, S> as Subscriber>⟧ ⟦<N as FormatFields>⟧ E.line_of ⟦<F as Filter>⟧ S.takes

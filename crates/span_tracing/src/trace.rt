@@ -2,11 +2,21 @@
 ghost use Rattle.std.specs.Prelude.{◌≡◌, IfOk, OnErr, OnOk, length, slice_get, string_bytes};
 ghost use Rattle.std.specs.Option.{option_copied, option_map};
 ghost use Rattle.tracing_core_fields.specs.Metadata.{plain_metadata};
+ghost use Rattle.span_tracing_laws.specs.runs.Laws.{SwapFollows};
+ghost use Rattle.span_tracing_laws.specs.runs.StepFollows.{TraceIsReady, registry_of};
+ghost use Rattle.span_tracing_outputs.specs.OutputFilters.{StackSwap};
 ghost use Rattle.span_tracing_skeleton.specs.Looking.{inner, output_in};
+ghost use Rattle.span_tracing_skeleton.specs.Refusing.{output_refusal};
+ghost use Rattle.span_tracing_steps.specs.FilterSwaps.{SwapGives};
 ghost use Rattle.span_tracing_steps.specs.Setup.{AddGives, RegisterGives, own_at, with_thread, without_retired};
-ghost use Rattle.span_tracing_steps.specs.States.{new_state, stack_in};
+ghost use Rattle.span_tracing_steps.specs.States.{new_state, skeleton_of, stack_in};
 
-use span_tracing_skeleton::{HasOutputs, HasRegistry, OutputPlace, Refusal};
+use event_formatter::{FormatEvent, Layer};
+use event_formatter_text::FormatFields;
+use span_registry_layers_layers::Filter;
+use span_tracing_laws::setup_follows;
+use span_tracing_outputs::{LineSink, PendingLines, TraceStack};
+use span_tracing_skeleton::{HasOutputs, HasRegistry, OutputPlace, Refusal, Reply};
 use span_tracing_steps::TraceParts;
 use std::alloc::{AllocError, Global};
 use std::marker::Model;
@@ -137,5 +147,37 @@ impl<T: Subscriber + HasRegistry + HasOutputs> Trace<T> {
         ensures gives { AddGives ⟦<T as Subscriber>⟧ T.outputs_in self.old stack result self.new }
     {
         self.parts.add_stack(stack)
+    }
+}
+
+impl<T: Subscriber + HasRegistry> Trace<T> {
+    /// Why a call on the output with this number is refused, if it is: there is no such output (`NoOutput`), or nobody holds its stack
+    /// (`ReleasedStack`).
+    pub fn output_refusal(&self, output: usize) -> Option<Refusal>
+        ensures { result ≡ output_refusal (skeleton_of T.registry_of self.now) output }
+    {
+        self.parts.output_refusal(output)
+    }
+}
+
+impl<N: FormatFields + Drop, E: FormatEvent, F: Filter, S: LineSink> Trace<TraceStack<N, E, F, S>> {
+    /// Lets the filter of an output and this one change places. From the next step on the new filter decides which events and new spans the
+    /// output is told of. A span that is open stays passed or refused as the filter had it that stood when it was made. Outputs are numbered
+    /// from 0 through all stacks, in the order in which they were added. Refused as [`output_refusal`](Trace::output_refusal) says. It needs
+    /// no memory; where there is none, answers that are kept of callsites are left out. `tracing-subscriber` has its `reload` for this.
+    pub fn swap_filter(&mut self, output: usize, filter: &mut F) -> Reply
+        // A refused call changes nothing. Else the filters change places, the stack and maybe others are asked anew, what is kept of
+        // callsites and the greatest level are formed anew, and all else stays.
+        ensures gives { SwapGives ⟦<TraceStack<N, E, F, S> as Subscriber>⟧ registry_of
+            (λ x place f y b. StackSwap ⟦<F as Filter>⟧ x place f y b) self.old output filter.old result self.new filter.new }
+        // A ready trace stays ready where the filter is honest. Its skeleton is the same, its stacks are but for that filter and what filters
+        // and outputs were last told, and outputs agree with the machines that they agreed with.
+        ensures follows { TraceIsReady ⟦<F as Filter>⟧ ⟦<Layer<N, E, PendingLines> as span_registry_layers_layers::Layer>⟧ self.old →
+            F.honest filter.old → SwapFollows ⟦<N as FormatFields>⟧ E.line_of ⟦<F as Filter>⟧ S.takes
+            ⟦<Layer<N, E, PendingLines> as span_registry_layers_layers::Layer>⟧ ⟦<TraceStack<N, E, F, S> as Subscriber>⟧
+            self.old output filter.old self.new }
+    {
+        setup_follows::<N, E, F, S>();
+        self.parts.swap_filter(output, filter)
     }
 }

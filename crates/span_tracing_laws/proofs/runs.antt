@@ -1,9 +1,15 @@
 pub mod HubStacks
 pub mod AskedStacks
+pub mod LentStacks
 pub mod UnrefusedSteps
 pub mod Settings
+pub mod StepOutcomes
+pub mod RequestSteps
+pub mod SpanSteps
+pub mod HolderSteps
 pub mod StepFollows
 pub mod Runs
 pub mod Files
 pub mod SetupCalls
 pub mod SkippedCallsites
+pub mod CountedTraces

@@ -1,5 +1,6 @@
 pub mod StepNotices
 pub mod StepSettings
+pub mod SwappedOutputs
 pub mod StepFollows
 pub mod Runs
 pub mod Laws

@@ -9,4 +9,7 @@ pub use json::{
     files_hold_objects, json_format_writes_objects, json_outputs_offer_objects, lines_give_objects,
 };
 pub use json_runs::{json_files_hold_objects, json_format_files_hold_objects, json_outputs_run};
-pub use runs::{files_follow, runs_follow, setup_follows, skipping_misses_nothing, steps_follow};
+pub use runs::{
+    files_follow, runs_follow, setup_follows, skipping_misses_nothing, steps_follow,
+    traces_stay_counted,
+};

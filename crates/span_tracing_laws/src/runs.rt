@@ -1,7 +1,7 @@
 //! Laws of steps and runs.
 ghost use Rattle.span_tracing_laws.specs.runs.Files.{FilesFollow};
 ghost use Rattle.span_tracing_laws.specs.runs.SkippedCallsites.{SkipsNothing};
-ghost use Rattle.span_tracing_laws.specs.runs.Laws.{RunsFollow, SetupFollows, StepsFollow};
+ghost use Rattle.span_tracing_laws.specs.runs.Laws.{RunsFollow, SetupFollows, StepsFollow, TraceStaysCounted};
 
 use event_formatter::{FormatEvent, Layer};
 use event_formatter_text::FormatFields;
@@ -10,6 +10,7 @@ use span_tracing_outputs::{
     LineSink, PendingLines, RollingSink, RoutedSinks, TraceStack, each_sink_has_its_run,
     lines_stand_in_files, routed_sinks_take_theirs, runs_compose, trace_follows,
 };
+use span_tracing_skeleton::stays_counted;
 use tracing_appender_rolling::Folder;
 use tracing_core_fields::Subscriber;
 
@@ -31,6 +32,18 @@ pub fn steps_follow<N: FormatFields + Drop, E: FormatEvent, F: Filter, S: LineSi
         ⟦<TraceStack<N, E, F, S> as Subscriber>⟧ }
 {
     trace_follows::<N, E, F, S>();
+}
+
+/// Each stack of a trace is held by as many as it counts: in a new trace, and in a ready one after each setup call, step and run. So a stack
+/// is released just when nobody holds it any more, and what a lane, a handle or a guard leads to is never released (`stays_counted`).
+pub fn traces_stay_counted<N: FormatFields + Drop, E: FormatEvent, F: Filter, S: LineSink>()
+    ensures { TraceStaysCounted ⟦<N as FormatFields>⟧ E.line_of ⟦<F as Filter>⟧ S.takes
+        ⟦<Layer<N, E, PendingLines> as span_registry_layers_layers::Layer>⟧
+        ⟦<TraceStack<N, E, F, S> as Subscriber>⟧ }
+{
+    stays_counted();
+    setup_follows::<N, E, F, S>();
+    steps_follow::<N, E, F, S>();
 }
 
 /// A run of steps goes as the skeleton and the output machines do: from each plain state that the trace agrees with, the

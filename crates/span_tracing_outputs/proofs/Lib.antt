@@ -8,6 +8,7 @@ pub mod ClosedSpans
 pub mod Stacks
 pub mod OutputFolds
 pub mod OutputSettings
+pub mod OutputFilters
 pub mod SinkLines
 pub mod OutputSinkPairs
 pub mod CallsWithoutNotices

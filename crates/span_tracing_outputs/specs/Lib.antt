@@ -7,6 +7,7 @@ pub mod Turns
 pub mod StackFollows
 pub mod OutputFolds
 pub mod OutputSettings
+pub mod OutputFilters
 pub mod SinkLines
 pub mod TraceStacks
 pub mod TraceSteadiness

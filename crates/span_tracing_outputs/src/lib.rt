@@ -3,6 +3,7 @@
 
 mod files;
 mod hand;
+mod has_filters;
 mod has_outputs;
 mod has_registry;
 mod laws;

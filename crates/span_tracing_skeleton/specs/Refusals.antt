@@ -6,6 +6,7 @@ use Rattle.span_tracing_skeleton.specs.declared.refusal.Refusal.TheVariants.{For
 use Rattle.span_tracing_skeleton.specs.declared.refusal.Refusal.TheVariants.{BadLinkName, BadName, FolderRefused, BadMoment, OutOfMemory}
 use Rattle.span_tracing_skeleton.specs.declared.refusal.Refusal.TheVariants.{BadRoute, JsonFieldsNeeded, UnknownLane, GlobalSet, Taken}
 use Rattle.span_tracing_skeleton.specs.declared.refusal.Refusal.TheVariants.{TooManyHandles, IdsSpent, WrongLane}
+use Rattle.span_tracing_skeleton.specs.declared.refusal.Refusal.TheVariants.{UnknownShelf}
 
 abbrev pub refusal_number : Refusal → ℕ
 refusal_number UnknownCallsite = 1
@@ -29,3 +30,4 @@ refusal_number Taken = 25
 refusal_number TooManyHandles = 26
 refusal_number IdsSpent = 27
 refusal_number WrongLane = 28
+refusal_number UnknownShelf = 29

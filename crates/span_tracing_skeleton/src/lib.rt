@@ -6,6 +6,7 @@ mod call;
 mod call_copies;
 mod call_equality;
 mod call_error;
+mod has_filters;
 mod has_outputs;
 mod has_registry;
 mod laws;
@@ -17,6 +18,7 @@ pub use call::{
     ResetCall, SpanCall, SpanName, Step,
 };
 pub use call_error::CallError;
+pub use has_filters::HasFilters;
 pub use has_outputs::HasOutputs;
 pub use has_registry::HasRegistry;
 pub use laws::stays_counted;

@@ -49,6 +49,8 @@ pub enum Refusal {
     IdsSpent,
     #[error("the guard isn't this lane's, isn't there, or is spent")]
     WrongLane,
+    #[error("no such place on the shelf of filters")]
+    UnknownShelf,
 }
 
 impl Refusal {
@@ -80,6 +82,7 @@ impl Refusal {
             Refusal::TooManyHandles => 26,
             Refusal::IdsSpent => 27,
             Refusal::WrongLane => 28,
+            Refusal::UnknownShelf => 29,
         }
     }
 }

@@ -60,7 +60,7 @@ module _ {T : Type 0} (g : Ghosts T) where
     pub caches : PreservesLivingCaches g ghosts t u
     pub next : u.next ≡ t.next
 
-  serial_is : (n : ℕ) (es : List (KeptSubscriber T)) (e : KeptSubscriber T) → subscriber_with n es ≡ Some e → e.serial ≡ n
+  pub serial_is : (n : ℕ) (es : List (KeptSubscriber T)) (e : KeptSubscriber T) → subscriber_with n es ≡ Some e → e.serial ≡ n
   serial_is n [] e there = absurd (cc)
   serial_is n (x ∷ xs) e there =
       by_bool (x.serial == n)

@@ -9,3 +9,4 @@ pub mod Interests
 pub mod InterestPreservation
 pub mod RequestTarget
 pub mod FullHandles
+pub mod FilterSwaps

@@ -4,6 +4,7 @@
 mod action;
 mod callsite;
 mod checks;
+mod filters;
 mod finding;
 mod holds;
 mod interest;

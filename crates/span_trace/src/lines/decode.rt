@@ -19,13 +19,13 @@ use crate::lines::fault::LineFault;
 use members::Members;
 use serde_json::Value as Json;
 pub use setup::{CallsiteLine, LaneLine, Setup};
-use setup::{callsite_line, lane_line};
+use setup::{callsite_line, lane_line, shelf_line};
 pub use sink::{FolderLine, SinkLine};
 use stack::stack_line;
 pub use stack::{FormatName, OutputLine, SpanEvent, StackLine, TimeLine};
 use std::alloc::Global;
 use step::step_line;
-pub use step::{NamedValue, RecordLine, StepLine};
+pub use step::{NamedValue, RecordLine, StepLine, SwapLine};
 
 /// A line of the input.
 #[derive(Drop)]
@@ -104,6 +104,7 @@ fn line_of(alloc: Global, setup: &[Setup], members: Members<'_>) -> Result<Line,
         "stack" => Ok(Line::Setup(Setup::Stack(stack_line(alloc, members)?))),
         "callsite" => Ok(Line::Setup(Setup::Callsite(callsite_line(alloc, members)?))),
         "lane" => Ok(Line::Setup(Setup::Lane(lane_line(alloc, members)?))),
+        "shelf" => Ok(Line::Setup(Setup::Shelf(shelf_line(members)?))),
         word => Ok(Line::Step(step_line(alloc, setup, word, members)?)),
     }
 }

@@ -9,7 +9,7 @@ use std::rt::Files;
 use std::test::Fail;
 
 /// Whole lines.
-const LINES: [&str; 51] = [
+const LINES: [&str; 58] = [
     "",
     " ",
     "null",
@@ -23,7 +23,6 @@ const LINES: [&str; 51] = [
     r#"{"do":null}"#,
     r#"{"do":"jump"}"#,
     r#"{"do":"LANE","thread":1}"#,
-    r#"{"do":"shelf","filter":"info"}"#,
     r#"{"do":"enabled","lane":0,"callsite":1}"#,
     r#"{"do":"enabled","moment":[0,0],"callsite":1}"#,
     r#"{"do":"enabled","lane":0,"moment":[0,0]}"#,
@@ -59,6 +58,14 @@ const LINES: [&str; 51] = [
     r#"{"do":"set_span_events","output":0,"set":null}"#,
     r#"{"do":"set_span_events","output":0,"set":["NEW"]}"#,
     r#"{"do":"set_span_events","output":null,"set":[]}"#,
+    r#"{"do":"swap_filter","output":0}"#,
+    r#"{"do":"swap_filter","shelf":0}"#,
+    r#"{"do":"swap_filter","output":0,"shelf":null}"#,
+    r#"{"do":"swap_filter","output":0,"shelf":0,"lane":0}"#,
+    r#"{"do":"shelf"}"#,
+    r#"{"do":"shelf","filter":"loud"}"#,
+    r#"{"do":"shelf","filter":3}"#,
+    r#"{"do":"shelf","filter":"info","place":0}"#,
     "\u{feff}{\"do\":\"lane\",\"thread\":1}",
     r#"{"do":"lane","thread":1.5"#,
 ];

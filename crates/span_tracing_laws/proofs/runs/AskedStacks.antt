@@ -42,7 +42,7 @@ module _ {T : Type 0} where
 
 module _ {T : Type 0} (Ready : T → Type 0) (Kept : T → T → Type 0) where
   abbrev pub Pair : KeptSubscriber T → KeptSubscriber T → Type 0
-  Pair e f = (f.serial ≡ e.serial) × (Ready e.subscriber → Kept e.subscriber f.subscriber)
+  Pair e f = (f.serial ≡ e.serial) × (f.handles ≡ e.handles) × (Ready e.subscriber → Kept e.subscriber f.subscriber)
 
   abbrev pub Pairs : List (KeptSubscriber T) → List (KeptSubscriber T) → Type 0
   Pairs [] [] = Unit {0}
@@ -59,7 +59,7 @@ module _ {T : Type 0} (Ready : T → Type 0) (Kept : T → T → Type 0) where
 
   alike_if : (b c : Bool) (e f : KeptSubscriber T) (o p : Option (KeptSubscriber T)) → b ≡ c → Pair e f →
       Alike (kept_value o) (kept_value p) → Alike (kept_value (if b then Some e else o)) (kept_value (if c then Some f else p))
-  alike_if true true e f o p is pair later = pair.1
+  alike_if true true e f o p is pair later = pair.2
   alike_if true false e f o p is pair later = absurd (cc)
   alike_if false true e f o p is pair later = absurd (cc)
   alike_if false false e f o p is pair later = later
@@ -78,14 +78,15 @@ module _ {T C : Type 0} (g : Ghosts T) (h : SiteGhosts C) (Ready : T → Type 0)
     (asked : (x : T) (m : PlainMetadata) (k : PlainInterest) (y : T) → Ready x → g.moves x (CallsiteRegistered m) k y → Kept x y)
     (hinted : (x y : T) (hint : Option ℕ) → Ready x → g.moves x HintAsked hint y → Kept x y) where
   pair_same : (e : KeptSubscriber T) → Pair Ready Kept e e
-  pair_same e = (refl, λ is. same e.subscriber is)
+  pair_same e = (refl, refl, λ is. same e.subscriber is)
 
   pair_then : (e f d : KeptSubscriber T) → Pair Ready Kept e f → Pair Ready Kept f d → Pair Ready Kept e d
   pair_then e f d one two = (
     two.0 ∙ one.0,
+    two.1 ∙ one.1,
     λ is.
-        let first = one.1 is in
-        onward e.subscriber f.subscriber d.subscriber first (two.1 (ready e.subscriber f.subscriber first)),
+        let first = one.2 is in
+        onward e.subscriber f.subscriber d.subscriber first (two.2 (ready e.subscriber f.subscriber first)),
   )
 
   pairs_then : (es fs ds : List (KeptSubscriber T)) → Pairs Ready Kept es fs → Pairs Ready Kept fs ds → Pairs Ready Kept es ds
@@ -97,17 +98,29 @@ module _ {T C : Type 0} (g : Ghosts T) (h : SiteGhosts C) (Ready : T → Type 0)
 
   given_pair : (all : Bool) (m : PlainMetadata) (i : ℕ) (k : PlainInterest) (e f : KeptSubscriber T) → Gives g all m i k e f →
       Pair Ready Kept e f
-  given_pair true m i k e f a = (ap (λ (d : KeptSubscriber T). d.serial) a.2, λ is. asked e.subscriber m k f.subscriber is a.1)
-  given_pair false m i k e f (inl a) = (ap (λ (d : KeptSubscriber T). d.serial) a.2, λ is. asked e.subscriber m k f.subscriber is a.1)
+  given_pair true m i k e f a = (
+    ap (λ (d : KeptSubscriber T). d.serial) a.2,
+    ap (λ
+        (d : KeptSubscriber T). d.handles) a.2,
+    λ is. asked e.subscriber m k f.subscriber is a.1,
+  )
+  given_pair false m i k e f (inl a) = (
+    ap (λ (d : KeptSubscriber T). d.serial) a.2,
+    ap (λ
+        (d : KeptSubscriber T). d.handles) a.2,
+    λ is. asked e.subscriber m k f.subscriber is a.1,
+  )
   given_pair false m i k e f (inr a) = subst (Pair Ready Kept e) (sym a.1) (pair_same e)
 
   hinted_pair : (all : Bool) (top : Option ℕ) (e f : KeptSubscriber T) → GivesHint g all top e f → Pair Ready Kept e f
   hinted_pair true top e f a = (
     ap (λ (d : KeptSubscriber T). d.serial) a.2,
+    ap (λ (d : KeptSubscriber T). d.handles) a.2,
     λ is. hinted e.subscriber f.subscriber (g.hint e.subscriber) is a.1,
   )
   hinted_pair false top e f (inl a) = (
     ap (λ (d : KeptSubscriber T). d.serial) a.2,
+    ap (λ (d : KeptSubscriber T). d.handles) a.2,
     λ is. hinted e.subscriber f.subscriber (g.hint e.subscriber) is a.1,
   )
   hinted_pair false top e f (inr a) = subst (Pair Ready Kept e) (sym a.1) (pair_same e)

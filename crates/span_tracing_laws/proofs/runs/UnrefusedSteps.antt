@@ -150,9 +150,11 @@ pub clone_none : (s : Skeleton) (x : RegistryValue) (name : SpanName) → regist
     gives.open_refusal x name.id.value ≡ None → when (handles_in s name == 18446744073709551615) TooManyHandles ≡ None →
     gives.clone_refusal x name.id.value ≡ None
 clone_none s x name is opened passes =
-    let same : handles_in s name ≡ handles_of kin_in x.spans name.id.value = ap (λ (y : RegistryValue). handles_of kin_in y.spans name.id.value) is ∙
+    let same : handles_in s name ≡ handles_of kin_in x.spans name.id.value = ap (λ
+    (y : RegistryValue). handles_of kin_in y.spans name.id.value) is ∙
     handles_bare x.spans name.id.value in
-    ap (λ (o : Option RequestError). gives.first o (gives.when (handles_of kin_in x.spans name.id.value == gives.most) errors.TooManyHandles))
+    ap (λ (o : Option RequestError). gives.first o (gives.when
+    (handles_of kin_in x.spans name.id.value == gives.most) errors.TooManyHandles))
     opened
     ∙ ap (λ (b : Bool). gives.when b errors.TooManyHandles) (ap (λ (k : ℕ). k == 18446744073709551615) (sym same) ∙
     when_none (handles_in s name == 18446744073709551615) TooManyHandles passes)
@@ -160,7 +162,8 @@ clone_none s x name is opened passes =
 pub close_none : (s : Skeleton) (x : RegistryValue) (name : SpanName) → registry_at s name.stack ≡ bare x →
     when (handles_in s name == 0) UnknownSpan ≡ None → gives.close_refusal x name.id.value ≡ None
 close_none s x name is passes =
-    let same : handles_in s name ≡ handles_of kin_in x.spans name.id.value = ap (λ (y : RegistryValue). handles_of kin_in y.spans name.id.value) is ∙
+    let same : handles_in s name ≡ handles_of kin_in x.spans name.id.value = ap (λ
+    (y : RegistryValue). handles_of kin_in y.spans name.id.value) is ∙
     handles_bare x.spans name.id.value in
     ap (λ (b : Bool). gives.when b errors.UnknownSpan) (ap (λ (k : ℕ). k == 0) (sym same) ∙
     when_none (handles_in s name == 0) UnknownSpan passes)

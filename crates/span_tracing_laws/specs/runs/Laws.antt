@@ -1,11 +1,13 @@
 -- Laws of steps and runs.
-use Rattle.std.specs.Prelude.{◌≡◌, ◌==◌, ℕ, false, List, map, Option, Some, None, Result, Ok}
+use Rattle.std.specs.Prelude.{◌≡◌, ◌==◌, if◌then◌else◌, is_some, Err, ℕ, false, List, map, Option, Some, None, Result, Ok}
 use Rattle.tracing_core_fields.specs.PlainMetadata.{PlainMetadata}
 use Rattle.tracing_core_fields.specs.requests.Interests.{PlainInterest}
 use Rattle.span_tracing_outputs.specs.OutputFolds.{Numbered}
 use Rattle.span_tracing_outputs.specs.TraceFollows.{IsReady}
 use Rattle.span_tracing_skeleton.specs.declared.refusal.Refusal.{Refusal}
-use Rattle.span_tracing_steps.specs.Setup.{AddGives, RegisterGives}
+use Rattle.span_tracing_steps.specs.FilterSwaps.{SwapGives}
+use Rattle.span_tracing_steps.specs.Interests.{KeepsWord}
+use Rattle.span_tracing_steps.specs.Setup.{AddGives, RegisterGives, with_thread, without_retired}
 use Rattle.tracing_core_fields.specs.requests.PlainRequests.{PlainEvent}
 use Rattle.tracing_core_moments.specs.declared.at.At.{At}
 use Rattle.tracing_core_fields.specs.declared.requests.subscriber.Subscriber.{Ghosts as SubscriberGhosts}
@@ -16,15 +18,22 @@ use Rattle.event_formatter_text.specs.declared.format_fields.FormatFields.{Ghost
 use Rattle.event_formatter_text.specs.declared.settings.Settings.{Settings}
 use Rattle.event_formatter.specs.formats.Contexts.{PlainContext}
 use Rattle.span_tracing_outputs.specs.OutputMachines.{PlainLine}
+use Rattle.span_tracing_outputs.specs.OutputFilters.{StackSwap}
 use Rattle.span_tracing_outputs.specs.OutputSettings.{outputs_in, stack_set}
 use Rattle.span_tracing_outputs.specs.TraceStacks.{TraceStackValue}
 use Rattle.span_tracing_outputs.specs.Turns.{Lines}
 use Rattle.span_tracing_skeleton.specs.PlainData.{PlainStep}
 use Rattle.span_tracing_skeleton.specs.declared.call.Reply.{Reply}
-use Rattle.span_tracing_steps.specs.States.{stack_in}
+use Rattle.span_tracing_steps.specs.States.{PlainThread, new_state, stack_in}
+use Rattle.span_registry_layers_store.specs.SlotIndependence.{bare}
+use Rattle.span_tracing_skeleton.specs.Counting.{IsCounted}
+use Rattle.span_tracing_skeleton.specs.Looking.{named}
+use Rattle.span_tracing_skeleton.specs.Setup.{with_callsite, with_stack}
+use Rattle.span_tracing_skeleton.specs.Skeleton.{Skeleton}
 use Rattle.span_tracing_steps.specs.Steps.{StepGives}
+use Rattle.span_tracing_laws.specs.runs.SwappedOutputs.{stack_filtered, swapped_at}
 use Rattle.span_tracing_laws.specs.runs.Runs.{OutsAgree, RunFollows, RunGives}
-use Rattle.span_tracing_laws.specs.runs.StepFollows.{Follows, TraceIsReady, Traced, registry_of}
+use Rattle.span_tracing_laws.specs.runs.StepFollows.{Follows, TraceIsReady, Traced, registry_of, skeleton_of}
 
 module _ {N E F S : Type 0} where
   -- the sinks are the same, and so are the spans, and the outputs with their filters but for what they were last told
@@ -38,6 +47,11 @@ module _ {N E F S : Type 0} where
   StackStays None (Some y) = ⊥
   StackStays (Some x) None = ⊥
   StackStays (Some x) (Some y) = OutputsStay x y
+
+-- a callsite that isn't known is kept behind the others; a known one, and a refused call, change nothing
+abbrev pub Registers : Skeleton → PlainMetadata → Result PlainInterest Refusal → Skeleton → Type 0
+Registers s m (Ok interest) t = t ≡ (if is_some (named s.callsites m.callsite) then s else with_callsite s m)
+Registers s m (Err refusal) t = t ≡ s
 
 module _ {N E F S : Type 0} (n : Ghosts N) (line_of : E → Settings → PlainContext → PlainEvent → Option (List ℕ)) (g : FilterGhosts F)
     (takes : S → At → PlainLine → S → Type 0) (h : LayerGhosts (Lines N E)) (sg : SubscriberGhosts (TraceStackValue N E F S)) where
@@ -58,12 +72,49 @@ module _ {N E F S : Type 0} (n : Ghosts N) (line_of : E → Settings → PlainCo
     pub stays : StackStays o p
     pub agrees : (outs : List (Numbered N)) → OutsAgree n line_of g o outs → OutsAgree n line_of g p outs
 
-  -- Setup calls leave a trace ready, and its outputs, spans, filters and sinks as they were: a stack that is added while it is ready stands
-  -- under the next number, and a callsite is registered.
+  -- A trace whose output let another filter change places with its own: it is ready, and its skeleton is the same. The stack of the output
+  -- has the filter there, all else of the stacks is the same but for what filters and outputs were last told, and outputs agree with the
+  -- machines that they agreed with. What is kept of the interest in callsites stays right.
+  pub record SwapFollows (v : Traced N E F S) (output : ℕ) (filter : F) (w : Traced N E F S) : Type 0 where
+    pub ready : TraceIsReady g h w
+    pub skeleton : skeleton_of w ≡ skeleton_of v
+    pub stays : (stack : ℕ) → StackStays (stack_filtered stack (swapped_at (skeleton_of v) output) filter (stack_in v stack))
+        (stack_in w stack)
+    pub agrees : (stack : ℕ) (outs : List (Numbered N)) → OutsAgree n line_of g (stack_in v stack) outs →
+        OutsAgree n line_of g (stack_in w stack) outs
+    pub word : KeepsWord sg v → KeepsWord sg w
+
+  -- Setup calls leave a trace ready, and its outputs, spans, filters and sinks as they were. A stack that is added while it is ready stands
+  -- under the next number, with a handle and its outputs counted; a callsite that is registered stands behind the others. A call that
+  -- lets filters change places leaves a trace so, too, but for that filter, where the one that comes is honest.
   pub record SetupFollows : Type 0 where
     pub added : (v : Traced N E F S) (x : TraceStackValue N E F S) (handle : ℕ) (w : Traced N E F S) → TraceIsReady g h v → IsReady g x →
         AddGives sg outputs_in v x (Ok handle) w → TraceIsReady g h w × StackKeeps (Some x) (stack_in w v.hub.next) ×
-        ((stack : ℕ) → (stack == v.hub.next) ≡ false → StackKeeps (stack_in v stack) (stack_in w stack))
+        ((stack : ℕ) → (stack == v.hub.next) ≡ false → StackKeeps (stack_in v stack) (stack_in w stack)) ×
+        (skeleton_of w ≡ with_stack (skeleton_of v) (bare (registry_of x)) (outputs_in x))
     pub registered : (v : Traced N E F S) (m : PlainMetadata) (r : Result PlainInterest Refusal) (w : Traced N E F S) →
         TraceIsReady g h v → RegisterGives sg v m r w →
-        TraceIsReady g h w × ((stack : ℕ) → StackKeeps (stack_in v stack) (stack_in w stack))
+        TraceIsReady g h w × ((stack : ℕ) → StackKeeps (stack_in v stack) (stack_in w stack)) ×
+        Registers (skeleton_of v) m r (skeleton_of w)
+    pub swapped : (v : Traced N E F S) (output : ℕ) (filter : F) (reply : Reply) (w : Traced N E F S) (back : F) → TraceIsReady g h v →
+        g.honest filter → SwapGives sg registry_of (λ x place f y b. StackSwap g x place f y b) v output filter reply w back →
+        SwapFollows v output filter w
+
+  -- Each stack of a trace is held by as many as it counts: of a new trace, and of a ready one after each setup call, step and run. What
+  -- follows from that the law of skeletons says (`StaysCounted`).
+  pub record TraceStaysCounted : Type 0 where
+    pub new : IsCounted (skeleton_of {N = N} {E = E} {F = F} {S = S} new_state)
+    pub lane_added : (v : Traced N E F S) (thread : PlainThread) → IsCounted (skeleton_of v) → IsCounted (skeleton_of
+        (with_thread v thread))
+    pub taken : (v : Traced N E F S) (number : ℕ) → IsCounted (skeleton_of v) → IsCounted (skeleton_of (without_retired v number))
+    pub added : (v : Traced N E F S) (x : TraceStackValue N E F S) (handle : ℕ) (w : Traced N E F S) → TraceIsReady g h v → IsReady g x →
+        AddGives sg outputs_in v x (Ok handle) w → IsCounted (skeleton_of v) → IsCounted (skeleton_of w)
+    pub registered : (v : Traced N E F S) (m : PlainMetadata) (r : Result PlainInterest Refusal) (w : Traced N E F S) →
+        TraceIsReady g h v → RegisterGives sg v m r w → IsCounted (skeleton_of v) → IsCounted (skeleton_of w)
+    pub swapped : (v : Traced N E F S) (output : ℕ) (filter : F) (reply : Reply) (w : Traced N E F S) (back : F) → TraceIsReady g h v →
+        g.honest filter → SwapGives sg registry_of (λ x place f y b. StackSwap g x place f y b) v output filter reply w back →
+        IsCounted (skeleton_of v) → IsCounted (skeleton_of w)
+    pub stepped : (v : Traced N E F S) (step : PlainStep) (reply : Reply) (w : Traced N E F S) → TraceIsReady g h v →
+        StepGives sg registry_of stack_set v step reply w → IsCounted (skeleton_of v) → IsCounted (skeleton_of w)
+    pub ran : (v : Traced N E F S) (steps : List PlainStep) (replies : List Reply) (w : Traced N E F S) → TraceIsReady g h v →
+        RunGives sg v steps replies w → IsCounted (skeleton_of v) → IsCounted (skeleton_of w)

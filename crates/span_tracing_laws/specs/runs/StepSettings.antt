@@ -7,7 +7,9 @@ use Rattle.span_tracing_outputs.specs.TraceStacks.{TraceStackValue}
 use Rattle.span_tracing_skeleton.specs.Looking.{output_at}
 use Rattle.span_tracing_skeleton.specs.Machine.{or_same}
 use Rattle.span_tracing_skeleton.specs.Order.{refusal_of}
-use Rattle.span_tracing_skeleton.specs.PlainData.{PlainStep, SetStep}
+use Rattle.span_tracing_skeleton.specs.PlainData.{PlainStep, GlobalStep, EventStep, EnabledStep, SpanStep, RecordStep, FollowsFromStep}
+use Rattle.span_tracing_skeleton.specs.PlainData.{EnterStep, ExitStep, CloneStep, CloseStep, DefaultStep, ResetStep, CloneHandleStep}
+use Rattle.span_tracing_skeleton.specs.PlainData.{ReleaseStep, SetStep}
 use Rattle.span_tracing_skeleton.specs.Skeleton.{Skeleton}
 use Rattle.span_tracing_skeleton.specs.declared.setting.OutputPlace.{OutputPlace}
 use Rattle.span_tracing_skeleton.specs.declared.setting.Setting.{Setting}
@@ -24,7 +26,20 @@ setting_for (Some at) setting = Some (record { at = at; setting = setting })
 -- of a step that is not refused; every other step changes none
 abbrev pub setting_by : Skeleton → PlainStep → Option OutputSetting
 setting_by s (SetStep call) = setting_for (output_at s call.output) call.setting
-setting_by s step = None
+setting_by s (GlobalStep handle) = None
+setting_by s (EventStep e) = None
+setting_by s (EnabledStep call) = None
+setting_by s (SpanStep n) = None
+setting_by s (RecordStep r) = None
+setting_by s (FollowsFromStep call) = None
+setting_by s (EnterStep call) = None
+setting_by s (ExitStep call) = None
+setting_by s (CloneStep call) = None
+setting_by s (CloseStep call) = None
+setting_by s (DefaultStep call) = None
+setting_by s (ResetStep call) = None
+setting_by s (CloneHandleStep handle) = None
+setting_by s (ReleaseStep handle) = None
 
 -- of any step: one that is refused changes none
 abbrev pub setting_of : Skeleton → PlainStep → Option OutputSetting

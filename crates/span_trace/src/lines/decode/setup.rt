@@ -1,11 +1,11 @@
 //! Setup lines.
 
 use crate::lines::decode::members::{Members, number_of_32_bits, owned_text};
-use crate::lines::decode::stack::StackLine;
+use crate::lines::decode::stack::{StackLine, filter_of};
 use crate::lines::fault::LineFault;
 use serde_json::Value as Json;
 use std::alloc::Global;
-use tracing_core::{Kind, Level};
+use tracing_core::{Kind, Level, LevelFilter};
 
 /// A setup call.
 #[derive(Drop)]
@@ -13,6 +13,8 @@ pub enum Setup {
     Stack(StackLine),
     Callsite(CallsiteLine),
     Lane(LaneLine),
+    /// A filter on the shelf.
+    Shelf(LevelFilter),
 }
 
 /// What is known of an event or a span before it happens.
@@ -94,4 +96,9 @@ pub(crate) fn lane_line(alloc: Global, members: Members<'_>) -> Result<LaneLine,
         thread: members.number("thread")?,
         name: members.text_if_given(alloc, "name")?,
     })
+}
+
+pub(crate) fn shelf_line(members: Members<'_>) -> Result<LevelFilter, LineFault> {
+    members.only(&["do", "filter"])?;
+    filter_of(members)
 }

@@ -88,11 +88,16 @@ const OUTPUT_KEYS: [&str; 8] = [
     "sinks",
 ];
 
+/// The level filter that a line names.
+pub(crate) fn filter_of(members: Members<'_>) -> Result<LevelFilter, LineFault> {
+    let filter = members.text("filter")?.parse::<LevelFilter>();
+    filter.or(Err(LineFault::NotReadable))
+}
+
 fn output_line(alloc: Global, members: Members<'_>) -> Result<OutputLine, LineFault> {
     members.only(&OUTPUT_KEYS)?;
     let key = number_of_32_bits(members.get("key")?)?;
-    let filter = members.text("filter")?.parse::<LevelFilter>();
-    let filter = filter.or(Err(LineFault::NotReadable))?;
+    let filter = filter_of(members)?;
     let format = format_named(members.text("format")?)?;
     let show_level = members.flag_or("show_level", true)?;
     // what owns memory comes last, so that little has to be given back where a member can't be read

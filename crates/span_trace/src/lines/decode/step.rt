@@ -22,6 +22,16 @@ pub enum StepLine {
     Whole(Step),
     /// Values whose fields are named: their places are known once the span's callsite is.
     Record(RecordLine),
+    /// An output's filter changes places with one of the shelf. The program keeps the shelf, so this is no `Step`.
+    Swap(SwapLine),
+}
+
+/// An output whose filter changes places with one of the shelf.
+#[derive(Clone, Copy, Drop)]
+pub struct SwapLine {
+    pub output: usize,
+    /// The filter's place on the shelf.
+    pub shelf: usize,
 }
 
 /// Values for a span.
@@ -49,6 +59,7 @@ pub(crate) fn step_line(
 ) -> Result<StepLine, LineFault> {
     match name {
         "record" => Ok(StepLine::Record(record_line(alloc, setup, members)?)),
+        "swap_filter" => Ok(StepLine::Swap(swap_line(members)?)),
         _ => Ok(StepLine::Whole(whole_step(alloc, setup, name, members)?)),
     }
 }
@@ -203,6 +214,14 @@ fn record_line(
     })
 }
 
+fn swap_line(members: Members<'_>) -> Result<SwapLine, LineFault> {
+    members.only(&["do", "output", "shelf"])?;
+    Ok(SwapLine {
+        output: members.size("output")?,
+        shelf: members.size("shelf")?,
+    })
+}
+
 fn enabled_call(members: Members<'_>) -> Result<EnabledCall, LineFault> {
     members.only(&["do", "lane", "moment", "callsite"])?;
     Ok(EnabledCall {
@@ -314,7 +333,7 @@ fn named_values(
 fn declares(line: &Setup, name: &str) -> bool {
     match line {
         Setup::Callsite(callsite) => callsite.field_index(name).is_some(),
-        Setup::Stack(_) | Setup::Lane(_) => false,
+        Setup::Stack(_) | Setup::Lane(_) | Setup::Shelf(_) => false,
     }
 }
 

@@ -1,15 +1,17 @@
-use Rattle.std.proofs.Common.{None, Some, ap, subst, ◌∙◌}
+use Rattle.std.proofs.Common.{None, Some, [], ◌∷◌, ap, subst, ◌∙◌}
 use Rattle.span_tracing_laws.specs.runs.Laws.{StackStays}
 use Rattle.span_tracing_outputs.specs.OutputSettings.{outputs_in, stack_set}
 use Rattle.span_tracing_laws.specs.runs.StepFollows.{registry_of}
+use Rattle.span_tracing_skeleton.specs.PlainData.{GlobalStep}
 use Rattle.span_tracing_steps.specs.States.{new_state}
-use Rattle.span_tracing.proofs.DefaultStack.{opened, reaches_first, same_stack}
+use Rattle.span_tracing.proofs.DefaultStack.{opened, opened_count, reaches_first, same_stack}
 use Rattle.span_tracing.proofs.opening.open_trace.Goals as goal
 
 pub unreachable-requires : goal.unreachable-requires
 unreachable-requires g c =
     c.in_default-set_global_default.not-Done
-    (opened _ outputs_in registry_of stack_set (record { name = None; number = 1 }) c.in_ok-stack.stack c.in-Ok-add_stack.handle c.new-trace.result c.thread.new.self
+    (opened _ outputs_in registry_of stack_set
+    (record { name = None; number = 1 }) c.in_ok-stack.stack c.in-Ok-add_stack.handle c.new-trace.result c.thread.new.self
     c.add_stack.new.self c.set_global_default.result c.set_global_default.new.self c.new-trace.ensures c.in-Ok.ensures.ok
     c.in-Ok-add_stack.ensures.gives c.set_global_default.ensures.gives).done
 
@@ -26,9 +28,12 @@ returns-clause-opened g c =
       c.in_ok-stack.stack,
       c.in_ok-stack.ensures.opened,
       subst (StackStays (Some c.in_ok-stack.stack))
-          (same_stack _ outputs_in registry_of stack_set (record { name = None; number = 1 }) c.add_stack.new.self c.in-Ok-add_stack.handle c.set_global_default.result
+          (same_stack _ outputs_in registry_of stack_set
+          (record { name = None; number = 1 }) c.in_ok-stack.stack c.add_stack.new.self c.in-Ok-add_stack.handle
+          c.set_global_default.result
           c.set_global_default.new.self
-          (opened _ outputs_in registry_of stack_set (record { name = None; number = 1 }) c.in_ok-stack.stack c.in-Ok-add_stack.handle c.new-trace.result
+          (opened _ outputs_in registry_of stack_set
+          (record { name = None; number = 1 }) c.in_ok-stack.stack c.in-Ok-add_stack.handle c.new-trace.result
           c.thread.new.self c.add_stack.new.self c.set_global_default.result c.set_global_default.new.self c.new-trace.ensures
           c.in-Ok.ensures.ok c.in-Ok-add_stack.ensures.gives c.set_global_default.ensures.gives)
           c.thread.new.self.hub.next (ap (λ v. v.hub.next) c.in-Ok.ensures.ok ∙ ap (λ v. v.hub.next) c.new-trace.ensures))
@@ -40,13 +45,15 @@ returns-clause-opened g c =
 pub returns-clause-bare : goal.returns-clause-bare
 returns-clause-bare g c =
     ap (λ v. v.hub.callsites)
-    (opened _ outputs_in registry_of stack_set (record { name = None; number = 1 }) c.in_ok-stack.stack c.in-Ok-add_stack.handle c.new-trace.result c.thread.new.self
+    (opened _ outputs_in registry_of stack_set
+    (record { name = None; number = 1 }) c.in_ok-stack.stack c.in-Ok-add_stack.handle c.new-trace.result c.thread.new.self
     c.add_stack.new.self c.set_global_default.result c.set_global_default.new.self c.new-trace.ensures c.in-Ok.ensures.ok
     c.in-Ok-add_stack.ensures.gives c.set_global_default.ensures.gives).set
 
 pub returns-clause-reached : goal.returns-clause-reached
 returns-clause-reached g c =
-    let o = opened _ outputs_in registry_of stack_set (record { name = None; number = 1 }) c.in_ok-stack.stack c.in-Ok-add_stack.handle c.new-trace.result
+    let o = opened _ outputs_in registry_of stack_set
+    (record { name = None; number = 1 }) c.in_ok-stack.stack c.in-Ok-add_stack.handle c.new-trace.result
     c.thread.new.self c.add_stack.new.self c.set_global_default.result c.set_global_default.new.self c.new-trace.ensures
     c.in-Ok.ensures.ok c.in-Ok-add_stack.ensures.gives c.set_global_default.ensures.gives in
     reaches_first (record { name = None; number = 1 }) o.count c.set_global_default.new.self o.stack o.hint o.greatest o.set
@@ -54,6 +61,29 @@ returns-clause-reached g c =
 pub returns-clause-lane : goal.returns-clause-lane
 returns-clause-lane g c =
     ap (λ v. v.threads)
-    (opened _ outputs_in registry_of stack_set (record { name = None; number = 1 }) c.in_ok-stack.stack c.in-Ok-add_stack.handle c.new-trace.result c.thread.new.self
+    (opened _ outputs_in registry_of stack_set
+    (record { name = None; number = 1 }) c.in_ok-stack.stack c.in-Ok-add_stack.handle c.new-trace.result c.thread.new.self
     c.add_stack.new.self c.set_global_default.result c.set_global_default.new.self c.new-trace.ensures c.in-Ok.ensures.ok
     c.in-Ok-add_stack.ensures.gives c.set_global_default.ensures.gives).set
+
+pub returns-clause-outputs : goal.returns-clause-outputs
+returns-clause-outputs g c =
+    (opened _ outputs_in registry_of stack_set
+    (record { name = None; number = 1 }) c.in_ok-stack.stack c.in-Ok-add_stack.handle c.new-trace.result c.thread.new.self
+    c.add_stack.new.self c.set_global_default.result c.set_global_default.new.self c.new-trace.ensures c.in-Ok.ensures.ok
+    c.in-Ok-add_stack.ensures.gives c.set_global_default.ensures.gives).outputs
+    ∙ ap (λ k. k ∷ []) (opened_count _ _ _ _ _ _ c.args.outputs.items c.in_ok-stack.stack c.in_ok-stack.ensures.opened)
+
+pub returns-clause-counted : goal.returns-clause-counted
+returns-clause-counted g c =
+    λ honest. c.traces_stay_counted.ensures.stepped c.add_stack.new.self (GlobalStep c.in-Ok-add_stack.handle) c.set_global_default.result
+    c.set_global_default.new.self
+    (c.setup_follows.ensures.added c.thread.new.self c.in_ok-stack.stack c.in-Ok-add_stack.handle c.add_stack.new.self
+    (rw (c.in-Ok.ensures.ok, c.new-trace.ensures) (c.traces_start_ready.ensures.thread new_state _ c.traces_start_ready.ensures.new))
+    (c.in_ok-stack.ensures.ready honest) c.in-Ok-add_stack.ensures.gives).0
+    c.set_global_default.ensures.gives
+    (c.traces_stay_counted.ensures.added c.thread.new.self c.in_ok-stack.stack c.in-Ok-add_stack.handle c.add_stack.new.self
+    (rw (c.in-Ok.ensures.ok, c.new-trace.ensures) (c.traces_start_ready.ensures.thread new_state _ c.traces_start_ready.ensures.new))
+    (c.in_ok-stack.ensures.ready honest) c.in-Ok-add_stack.ensures.gives
+    (rw (c.in-Ok.ensures.ok, c.new-trace.ensures)
+    (c.traces_stay_counted.ensures.lane_added new_state (record { name = None; number = 1 }) c.traces_stay_counted.ensures.new)))
