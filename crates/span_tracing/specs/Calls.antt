@@ -18,20 +18,21 @@ use Rattle.span_tracing_skeleton.specs.declared.call.Reply.{Reply}
 use Rattle.span_tracing_steps.specs.Steps.{StepGives}
 use Rattle.span_tracing_laws.specs.runs.Files.{FileTrace}
 use Rattle.span_tracing_laws.specs.runs.StepFollows.{registry_of}
-use Rattle.span_tracing_laws.specs.runs.Runs.{RunGives}
+use Rattle.span_tracing_laws.specs.runs.Runs.{Caching, Road, RunGives}
 use Rattle.span_tracing.specs.Ready.{RunsReady}
 
 module _ {N E F D : Type 0} (sg : SubscriberGhosts (TraceStackValue N E F (Routed (RollingSink D)))) where
   -- a call is a run of one step, and a run with one that begins where it ended is one run
   pub record CallsMakeRuns : Type 0 where
     pub call : (v : FileTrace N E F D) (step : PlainStep) (reply : Reply) (w : FileTrace N E F D) →
-        StepGives sg registry_of stack_set v step reply w → RunGives sg v (step ∷ []) (reply ∷ []) w
-    pub joined : (v : FileTrace N E F D) (steps : List PlainStep) (replies : List Reply) (mid : FileTrace N E F D) (more : List PlainStep)
-        (later : List Reply) (w : FileTrace N E F D) → RunGives sg v steps replies mid → RunGives sg mid more later w →
-        RunGives sg v (steps ++ more) (replies ++ later) w
+        StepGives sg registry_of stack_set v step reply w → RunGives sg Caching v (step ∷ []) (reply ∷ []) w
+    pub joined : (road : Road) (v : FileTrace N E F D) (steps : List PlainStep) (replies : List Reply) (mid : FileTrace N E F D)
+        (more : List PlainStep) (later : List Reply) (w : FileTrace N E F D) → RunGives sg road v steps replies mid →
+        RunGives sg road mid more later w → RunGives sg road v (steps ++ more) (replies ++ later) w
 
   -- what becomes of replies, sinks and files in a run, however its steps were called
   abbrev pub EachRunIsReady : (D → Option Contents) → (D → ℕ) → Ghosts N → (E → Settings → PlainContext → PlainEvent → Option (List ℕ)) →
       FilterGhosts F → LayerGhosts (Lines N E) → Type 0
-  EachRunIsReady contents failed n line_of g h = (v : FileTrace N E F D) (steps : List PlainStep) (replies : List Reply)
-      (w : FileTrace N E F D) → RunGives sg v steps replies w → RunsReady contents failed n line_of g h v steps replies w
+  EachRunIsReady contents failed n line_of g h = (road : Road) (v : FileTrace N E F D) (steps : List PlainStep)
+      (replies : List Reply) (w : FileTrace N E F D) → RunGives sg road v steps replies w →
+      RunsReady contents failed n line_of g h road v steps replies w

@@ -2,6 +2,7 @@ pub mod Setup
 pub mod SpanMoments
 pub mod OpenedTrace
 pub mod Ready
+pub mod Roads
 pub mod OutputReaders
 pub mod Calls
 pub mod OutputIndependence
@@ -21,6 +22,7 @@ pub use Rattle.span_tracing_skeleton.specs.declared.call_error.CallError
 pub use Rattle.span_tracing_skeleton.specs.declared.refusal.Refusal
 pub use Rattle.span_tracing_skeleton.specs.declared.setting.OutputPlace
 pub use Rattle.span_tracing_skeleton.specs.declared.setting.Setting
+pub use Rattle.span_tracing_steps.specs.Asking
 pub use Rattle.span_tracing_steps.specs.InterestPreservation
 pub use Rattle.span_tracing_steps.specs.Interests
 pub use Rattle.span_tracing_steps.specs.Setup as SetupSteps
@@ -54,6 +56,7 @@ pub use Rattle.span_tracing_outputs.specs.declared.files.output_spec.OutputSpec
 pub use Rattle.span_tracing_outputs.specs.declared.sinks.sink.RollingSink
 pub use Rattle.span_tracing_laws.specs.json_runs.JsonRuns
 pub use Rattle.span_tracing_laws.specs.runs.Files
+pub use Rattle.span_tracing_laws.specs.runs.KeptStacks
 pub use Rattle.span_tracing_laws.specs.runs.Laws
 pub use Rattle.span_tracing_laws.specs.runs.Runs
 pub use Rattle.span_tracing_laws.specs.runs.SkippedCallsites

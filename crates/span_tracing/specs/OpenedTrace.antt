@@ -16,7 +16,7 @@ use Rattle.span_tracing_outputs.specs.declared.files.output_spec.OutputSpec.{Out
 use Rattle.span_tracing_outputs.specs.declared.sinks.sink.RollingSink.{RollingSink}
 use Rattle.span_tracing_skeleton.specs.Looking.{reach}
 use Rattle.span_tracing_skeleton.specs.Skeleton.{Own, Unset}
-use Rattle.span_tracing_laws.specs.runs.Laws.{StackStays}
+use Rattle.span_tracing_laws.specs.runs.KeptStacks.{StackStays}
 use Rattle.span_tracing_laws.specs.runs.StepFollows.{Traced, skeleton_of}
 
 module _ {F D : Type 0} (contents : D → Option Contents) (failed : D → ℕ) (g : FilterGhosts F) (h : LayerGhosts Shown) (m : Moment) where

@@ -18,6 +18,7 @@ use Rattle.span_tracing_outputs.specs.declared.sinks.sink.RollingSink.{RollingSi
 use Rattle.span_tracing_skeleton.specs.PlainData.{PlainStep}
 use Rattle.span_tracing_skeleton.specs.declared.call.Reply.{Reply}
 use Rattle.span_tracing_laws.specs.runs.Files.{RunsToFiles}
+use Rattle.span_tracing_laws.specs.runs.Runs.{Road}
 use Rattle.span_tracing_laws.specs.runs.StepFollows.{Follows, TraceIsReady, Traced, registry_of}
 use Rattle.span_tracing_steps.specs.Steps.{StepGives}
 
@@ -36,9 +37,9 @@ pub record IsStep {N E F S : Type 0} (s : SubscriberGhosts (TraceStackValue N E 
   pub gives : StepGives s registry_of stack_set v step reply w
   pub follows : FollowsReady n line_of g takes h v step reply w
 
--- so does a run, and its sinks and files are told of
+-- so does a run on each road, and its sinks and files are told of
 abbrev pub RunsReady : {N E F D : Type 0} → (D → Option Contents) → (D → ℕ) → Ghosts N →
-    (E → Settings → PlainContext → PlainEvent → Option (List ℕ)) → FilterGhosts F → LayerGhosts (Lines N E) →
+    (E → Settings → PlainContext → PlainEvent → Option (List ℕ)) → FilterGhosts F → LayerGhosts (Lines N E) → Road →
     Traced N E F (Routed (RollingSink D)) → List PlainStep → List Reply → Traced N E F (Routed (RollingSink D)) → Type 0
-RunsReady contents failed n line_of g h v steps replies w = TraceIsReady g h v →
-    RunsToFiles contents failed n line_of g h v steps replies w × TraceIsReady g h w
+RunsReady contents failed n line_of g h road v steps replies w = TraceIsReady g h v →
+    RunsToFiles contents failed n line_of g h road v steps replies w × TraceIsReady g h w

@@ -3,7 +3,8 @@ ghost use Rattle.std.specs.Prelude.{◌≡◌, IfOk, OnErr};
 ghost use Rattle.tracing_core_fields.specs.IndexedEntries.{lent_entries};
 ghost use Rattle.span_tracing.specs.SpanMoments.{moments_of};
 ghost use Rattle.span_tracing.specs.Ready.{IsStep, RunsReady};
-ghost use Rattle.span_tracing_laws.specs.runs.Runs.{RunGives};
+ghost use Rattle.span_tracing.specs.Roads.{road_of};
+ghost use Rattle.span_tracing_laws.specs.runs.Runs.{Asking, Caching, RunGives, StepBy};
 ghost use Rattle.span_tracing_outputs.specs.sinks.Takes.{TakesLine};
 ghost use Rattle.span_tracing_skeleton.specs.PlainData.{CloneHandleStep, CloneStep, CloseStep, DefaultStep, EnabledStep, EnterStep};
 ghost use Rattle.span_tracing_skeleton.specs.PlainData.{EventStep, ExitStep, FollowsFromStep, GlobalStep, RecordStep, ReleaseStep};
@@ -345,15 +346,26 @@ impl<N: FormatFields + Drop, E: FormatEvent, F: Filter, S: LineSink> Trace<Trace
         self.act(step)
     }
 
+    // A step, as the trace's parts take it; before it the trace asks anew, where that is wanted.
+    fn act_by(&mut self, asks: bool, next: &Step) -> Reply
+        ensures { StepBy ⟦<TraceStack<N, E, F, S> as Subscriber>⟧ (road_of asks) self.old (plain_step next.now) result self.new }
+    {
+        if asks {
+            self.parts.rebuild_interest_cache();
+        }
+        self.act(next)
+    }
+
     // Steps in order, as the trace's parts take them.
-    fn run_all(&mut self, steps: &[Step]) -> Result<Vec<Reply>, AllocError>
+    fn run_all(&mut self, asks: bool, steps: &[Step]) -> Result<Vec<Reply>, AllocError>
         ensures run { IfOk result
-            (λ replies. RunGives ⟦<TraceStack<N, E, F, S> as Subscriber>⟧ self.old (plain_steps steps.now) replies.items self.new) }
+            (λ replies. RunGives ⟦<TraceStack<N, E, F, S> as Subscriber>⟧ (road_of asks) self.old (plain_steps steps.now) replies.items
+            self.new) }
         ensures err { OnErr result (self.new ≡ self.old) }
     {
         let mut replies = Vec::with_capacity(self.parts.alloc(), steps.len())?;
         for step in steps {
-            replies.push_reserved(self.act(step));
+            replies.push_reserved(self.act_by(asks, step));
         }
         Ok(replies)
     }
@@ -373,18 +385,43 @@ impl<N: FormatFields + Drop, E: FormatEvent, F: Filter, D: Folder> Trace<
     /// Out of memory for the replies, whose room is made first: then nothing was done.
     pub fn run(&mut self, steps: &[Step]) -> Result<Vec<Reply>, AllocError>
         // There is one reply for each step, and each step goes as it would alone, from where the one before left the trace.
-        ensures gives { IfOk result (λ replies. RunGives ⟦<TraceStack<N, E, F, RoutedSinks<RollingSink<D>>> as Subscriber>⟧ self.old
+        ensures gives { IfOk result (λ replies. RunGives ⟦<TraceStack<N, E, F, RoutedSinks<RollingSink<D>>> as Subscriber>⟧ Caching self.old
             (plain_steps steps.now) replies.items self.new) }
         // Where the trace is ready, replies, sinks and files are as `RunsToFiles` says, and the trace is ready afterwards.
         ensures run { IfOk result
             (λ replies. RunsReady D.contents D.failed ⟦<N as FormatFields>⟧ E.line_of ⟦<F as Filter>⟧
             ⟦<Layer<N, E, PendingLines> as span_registry_layers_layers::Layer>⟧
-            self.old (plain_steps steps.now) replies.items self.new) }
+            Caching self.old (plain_steps steps.now) replies.items self.new) }
         // Where there is no memory for the replies, nothing was done.
         ensures err { OnErr result (self.new ≡ self.old) }
     {
         runs_follow::<N, E, F, RoutedSinks<RollingSink<D>>>();
         files_follow::<N, E, F, D>();
-        self.run_all(steps)
+        self.run_all(false, steps)
+    }
+
+    /// Steps in order, as [`run`](Trace::run) takes them, but before each one the trace asks anew of each callsite, as
+    /// [`rebuild_interest_cache`](Trace::rebuild_interest_cache) does. So no step goes by an older answer. It takes the longer the more
+    /// callsites there are.
+    ///
+    /// # Errors
+    ///
+    /// Out of memory for the replies, whose room is made first: then nothing was done.
+    pub fn run_asking(&mut self, steps: &[Step]) -> Result<Vec<Reply>, AllocError>
+        // There is one reply for each step, and each step goes as it would alone once the trace asked anew, from where the
+        // one before left it.
+        ensures gives { IfOk result (λ replies. RunGives ⟦<TraceStack<N, E, F, RoutedSinks<RollingSink<D>>> as Subscriber>⟧ Asking self.old
+            (plain_steps steps.now) replies.items self.new) }
+        // Where the trace is ready, replies, sinks and files are those of the same machine, and the trace is ready afterwards.
+        ensures run { IfOk result
+            (λ replies. RunsReady D.contents D.failed ⟦<N as FormatFields>⟧ E.line_of ⟦<F as Filter>⟧
+            ⟦<Layer<N, E, PendingLines> as span_registry_layers_layers::Layer>⟧
+            Asking self.old (plain_steps steps.now) replies.items self.new) }
+        // Where there is no memory for the replies, nothing was done.
+        ensures err { OnErr result (self.new ≡ self.old) }
+    {
+        runs_follow::<N, E, F, RoutedSinks<RollingSink<D>>>();
+        files_follow::<N, E, F, D>();
+        self.run_all(true, steps)
     }
 }

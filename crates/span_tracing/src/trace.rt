@@ -2,11 +2,12 @@
 ghost use Rattle.std.specs.Prelude.{◌≡◌, IfOk, OnErr, OnOk, length, slice_get, string_bytes};
 ghost use Rattle.std.specs.Option.{option_copied, option_map};
 ghost use Rattle.tracing_core_fields.specs.Metadata.{plain_metadata};
-ghost use Rattle.span_tracing_laws.specs.runs.Laws.{SwapFollows};
+ghost use Rattle.span_tracing_laws.specs.runs.Laws.{AskedFollows, SwapFollows};
 ghost use Rattle.span_tracing_laws.specs.runs.StepFollows.{TraceIsReady, registry_of};
 ghost use Rattle.span_tracing_outputs.specs.OutputFilters.{StackSwap};
 ghost use Rattle.span_tracing_skeleton.specs.Looking.{inner, output_in};
 ghost use Rattle.span_tracing_skeleton.specs.Refusing.{output_refusal};
+ghost use Rattle.span_tracing_steps.specs.Asking.{AsksAnew};
 ghost use Rattle.span_tracing_steps.specs.FilterSwaps.{SwapGives};
 ghost use Rattle.span_tracing_steps.specs.Setup.{AddGives, RegisterGives, own_at, with_thread, without_retired};
 ghost use Rattle.span_tracing_steps.specs.States.{new_state, skeleton_of, stack_in};
@@ -179,5 +180,21 @@ impl<N: FormatFields + Drop, E: FormatEvent, F: Filter, S: LineSink> Trace<Trace
     {
         setup_follows::<N, E, F, S>();
         self.parts.swap_filter(output, filter)
+    }
+
+    /// Asks all filters anew of each callsite and for their greatest levels, and keeps what they say. An honest filter answers as it did
+    /// before, and setup calls ask on their own, so it is wanted only where a filter changes its answers by itself. Of such a filter little
+    /// is promised.
+    pub fn rebuild_interest_cache(&mut self)
+        ensures asked { AsksAnew ⟦<TraceStack<N, E, F, S> as Subscriber>⟧ self.old self.new }
+        // A ready trace stays ready, and all is as before but for what filters and outputs were last told. What is kept of the interest in
+        // callsites is right then, whatever it was before.
+        ensures follows { TraceIsReady ⟦<F as Filter>⟧ ⟦<Layer<N, E, PendingLines> as span_registry_layers_layers::Layer>⟧ self.old →
+            AskedFollows ⟦<N as FormatFields>⟧ E.line_of ⟦<F as Filter>⟧ S.takes
+            ⟦<Layer<N, E, PendingLines> as span_registry_layers_layers::Layer>⟧ ⟦<TraceStack<N, E, F, S> as Subscriber>⟧
+            self.old self.new }
+    {
+        setup_follows::<N, E, F, S>();
+        self.parts.rebuild_interest_cache();
     }
 }

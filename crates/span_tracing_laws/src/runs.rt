@@ -14,8 +14,8 @@ use span_tracing_skeleton::stays_counted;
 use tracing_appender_rolling::Folder;
 use tracing_core_fields::Subscriber;
 
-/// Setup calls leave a trace ready for steps. The outputs of each stack, also of one that is added, agree with the machines that they
-/// agreed with, and its filters, layers and sinks are as they were.
+/// Setup calls leave a trace ready for steps, and so does asking anew of each callsite. The outputs of each stack, also of one that is
+/// added, agree with the machines that they agreed with, and its filters, layers and sinks are as they were.
 pub fn setup_follows<N: FormatFields + Drop, E: FormatEvent, F: Filter, S: LineSink>()
     ensures { SetupFollows ⟦<N as FormatFields>⟧ E.line_of ⟦<F as Filter>⟧ S.takes
         ⟦<Layer<N, E, PendingLines> as span_registry_layers_layers::Layer>⟧
@@ -49,12 +49,14 @@ pub fn traces_stay_counted<N: FormatFields + Drop, E: FormatEvent, F: Filter, S:
 /// A run of steps goes as the skeleton and the output machines do: from each plain state that the trace agrees with, the
 /// replies are the plain ones, the trace agrees with the plain state afterwards, and of each stack each output's sink took
 /// exactly the lines of the output's machine, in order, each with where and when it was handed over. A step that found no
-/// memory did nothing.
+/// memory did nothing. This holds of a run by what is kept of
+/// filters' answers, and of one that asks anew before each step.
 pub fn runs_follow<N: FormatFields + Drop, E: FormatEvent, F: Filter, S: LineSink>()
     ensures { RunsFollow ⟦<N as FormatFields>⟧ E.line_of ⟦<F as Filter>⟧ S.takes
         ⟦<Layer<N, E, PendingLines> as span_registry_layers_layers::Layer>⟧
         ⟦<TraceStack<N, E, F, S> as Subscriber>⟧ }
 {
+    setup_follows::<N, E, F, S>();
     steps_follow::<N, E, F, S>();
     runs_compose::<S>();
     each_sink_has_its_run::<N, E, F, S>();

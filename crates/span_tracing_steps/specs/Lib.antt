@@ -10,3 +10,4 @@ pub mod InterestPreservation
 pub mod RequestTarget
 pub mod FullHandles
 pub mod FilterSwaps
+pub mod Asking

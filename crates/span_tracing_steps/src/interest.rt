@@ -1,6 +1,7 @@
 //! What a trace keeps of the interest in its callsites.
 ghost use Rattle.std.specs.Prelude.{◌≡◌, is_some};
 ghost use Rattle.span_tracing_skeleton.specs.Looking.{named};
+ghost use Rattle.span_tracing_steps.specs.Asking.{AsksAnew};
 ghost use Rattle.span_tracing_steps.specs.Interests.{is_off_at};
 ghost use Rattle.span_tracing_steps.specs.States.{at_index, skeleton_of, value_in};
 
@@ -23,6 +24,8 @@ impl<T: Subscriber + HasRegistry> TraceParts<T> {
 }
 
 impl<T: Subscriber> TraceParts<T> {
+    ghost use Rattle.span_tracing_steps.specs.TraceInvariant.{IsSound};
+
     /// Whether it is kept of the callsite at the index that nobody is interested in it.
     pub fn is_off(&self, index: CallsiteIndex) -> bool
         ensures { result ≡ is_off_at (value_in self.now).hub.callsites index }
@@ -31,5 +34,14 @@ impl<T: Subscriber> TraceParts<T> {
             Some(interest) => interest.is_never(),
             None => false,
         }
+    }
+
+    /// Asks each stack of each callsite and for its hint, and keeps what it says.
+    pub fn rebuild_interest_cache(&mut self)
+        requires { IsSound self.old }
+        ensures sound { IsSound self.new }
+        ensures asked { AsksAnew ⟦<T as Subscriber>⟧ (value_in self.old) (value_in self.new) }
+    {
+        self.hub.rebuild_interest_cache();
     }
 }

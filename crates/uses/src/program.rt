@@ -9,7 +9,7 @@ ghost use Rattle.span_tracing_outputs.specs.TraceFollows.{IsReady};
 ghost use Rattle.span_tracing_steps.specs.Steps.{StepGives};
 ghost use Rattle.span_tracing_skeleton.specs.Looking.{reach};
 ghost use Rattle.span_tracing_laws.specs.runs.StepFollows.{TraceIsReady, registry_of, skeleton_of};
-ghost use Rattle.span_tracing_laws.specs.runs.Runs.{RunGives};
+ghost use Rattle.span_tracing_laws.specs.runs.Runs.{Caching, RunGives};
 ghost use Rattle.span_tracing.specs.Ready.{RunsReady};
 ghost use Rattle.uses.specs.Programs.{message_step};
 
@@ -155,12 +155,12 @@ pub fn log_both(
     first: &str,
     second: &str,
 ) -> (Reply, Reply)
-    ensures gives { RunGives ⟦<FileStack<LevelFilter, MemoryFolder> as Subscriber>⟧ trace.old
+    ensures gives { RunGives ⟦<FileStack<LevelFilter, MemoryFolder> as Subscriber>⟧ Caching trace.old
         (message_step moment callsite.0 first.now ∷ message_step moment callsite.0 second.now ∷ [])
         (result.0 ∷ result.1 ∷ []) trace.new }
     ensures run { RunsReady ⟦<MemoryFolder as Folder>⟧.contents ⟦<MemoryFolder as Folder>⟧.failed
         ⟦<Fields as FormatFields>⟧ ⟦<Format<LineFormat, Timer> as FormatEvent>⟧.line_of ⟦<LevelFilter as Filter>⟧
-        ⟦<Lines as span_registry_layers::Layer>⟧ trace.old
+        ⟦<Lines as span_registry_layers::Layer>⟧ Caching trace.old
         (message_step moment callsite.0 first.now ∷ message_step moment callsite.0 second.now ∷ [])
         (result.0 ∷ result.1 ∷ []) trace.new }
 {

@@ -1,7 +1,7 @@
 //! A lane that reaches a stack of its own for a while.
 
 ghost use Rattle.std.specs.Prelude.{◌≡◌, ℕ, ◌∷◌, [], IfOk};
-ghost use Rattle.span_tracing_laws.specs.runs.Runs.{RunGives};
+ghost use Rattle.span_tracing_laws.specs.runs.Runs.{Caching, RunGives};
 ghost use Rattle.span_tracing_laws.specs.runs.StepFollows.{TraceIsReady};
 ghost use Rattle.span_tracing_skeleton.specs.declared.call.Reply.{Reply};
 ghost use Rattle.span_tracing_skeleton.specs.declared.call.Reply.TheVariants.{Guard};
@@ -27,7 +27,7 @@ pub fn log_apart(
     text: &str,
 ) -> Result<Reply, Refusal>
     ensures run { IfOk result (λ reply. (guard : ℕ) × (back : Reply) × RunGives ⟦<FileStack<LevelFilter, MemoryFolder> as Subscriber>⟧
-        trace.old (apart_steps lane handle guard moment callsite.0 text.now) (Guard guard ∷ reply ∷ back ∷ []) trace.new) }
+        Caching trace.old (apart_steps lane handle guard moment callsite.0 text.now) (Guard guard ∷ reply ∷ back ∷ []) trace.new) }
     ensures ready { TraceIsReady ⟦<LevelFilter as Filter>⟧ ⟦<Lines as span_registry_layers::Layer>⟧ trace.old →
         TraceIsReady ⟦<LevelFilter as Filter>⟧ ⟦<Lines as span_registry_layers::Layer>⟧ trace.new }
 {

@@ -4,7 +4,7 @@ use event_formatter::{Fields, Format, Layer, LineFormat, Timer};
 use event_formatter_lines::{FixedText, FmtSpan};
 use event_formatter_text::Route;
 use span_registry_layers::Output;
-use span_registry_layers_layers::Filtered;
+use span_registry_layers_layers::{Filter, Filtered};
 use span_registry_layers_store::OutputKey;
 use span_tracing_outputs::{LineSettings, OutputSpec, PendingLines, SinkSpec};
 use std::alloc::{AllocError, Global};
@@ -86,6 +86,17 @@ pub(crate) fn output_in(
     fields: Fields,
     filter: LevelFilter,
 ) -> Result<Output<Shown>, Fail> {
+    output_filtered(alloc, key, shape, fields, filter)
+}
+
+/// The same under any filter.
+pub(crate) fn output_filtered<F: Filter>(
+    alloc: Global,
+    key: u32,
+    shape: LineFormat,
+    fields: Fields,
+    filter: F,
+) -> Result<Output<Filtered<Layer<Fields, Shape, PendingLines>, F>>, Fail> {
     let time = FixedText::new(String::from_str(alloc, "fake time")?);
     let format = Format::new(alloc)
         .with_timer(Timer::Fixed(time))

@@ -18,7 +18,8 @@ use Rattle.span_tracing_outputs.specs.Turns.{Lined, own}
 use Rattle.span_tracing_steps.specs.States.{stack_in}
 use Rattle.span_tracing_laws.specs.json.Formats.{JsonFormatWritesObjects}
 use Rattle.span_tracing_laws.specs.json.Objects.{IsJsonOut, KeepsJson, WritesEach}
-use Rattle.span_tracing_laws.specs.runs.Runs.{OutsAgree, StepWithMask, steps_of}
+use Rattle.span_tracing_laws.specs.runs.KeptStacks.{OutsAgree}
+use Rattle.span_tracing_laws.specs.runs.Runs.{StepWithMask, steps_of}
 use Rattle.span_tracing_laws.specs.json_runs.JsonRuns.{HasJsonLayer, JsonFilesHoldObjects, JsonFormatFilesHoldObjects, NoFaultIsTold}
 use Rattle.span_tracing_laws.specs.json_runs.Steps.{EventsAreFormatted}
 

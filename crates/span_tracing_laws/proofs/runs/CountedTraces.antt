@@ -27,7 +27,7 @@ use Rattle.tracing_core_fields.specs.requests.Interests.{PlainInterest}
 use Rattle.span_tracing_skeleton.specs.declared.refusal.Refusal.{Refusal}
 use Rattle.span_tracing_skeleton.specs.Looking.{named}
 use Rattle.span_tracing_skeleton.specs.Setup.{with_callsite}
-use Rattle.span_tracing_laws.specs.runs.Runs.{RunGives}
+use Rattle.span_tracing_laws.specs.runs.Runs.{Asking, Caching, Road, RunGives, StepBy}
 use Rattle.span_tracing_laws.specs.runs.StepFollows.{Follows, TraceIsReady, Traced, registry_of, skeleton_of}
 use Rattle.span_tracing_laws.specs.runs.Laws.{Registers, SetupFollows, StepsFollow, TraceStaysCounted}
 
@@ -59,14 +59,24 @@ module _ {N E F S : Type 0} (n : Ghosts N) (line_of : E → Settings → PlainCo
       subst IsCounted (sym follows.skeleton) (counted.stepped (skeleton_of v) step follows.answers is)
   stepped_counted v step reply w (inr none) is = subst (λ (u : Traced N E F S). IsCounted (skeleton_of u)) (sym none.3) is
 
-  run_counted : (v : Traced N E F S) (steps_run : List PlainStep) (replies : List Reply) (w : Traced N E F S) → TraceIsReady g h v →
-      RunGives sg v steps_run replies w → IsCounted (skeleton_of v) → IsCounted (skeleton_of w)
-  run_counted v [] [] w ready same is = subst (λ (u : Traced N E F S). IsCounted (skeleton_of u)) (sym same) is
-  run_counted v [] (reply ∷ replies) w ready goes is = absurd goes
-  run_counted v (step ∷ later) [] w ready goes is = absurd goes
-  run_counted v (step ∷ later) (reply ∷ replies) w ready (mid, goes, rest) is =
-      let one = steps v step reply mid ready goes in
-      run_counted mid later replies w one.1 rest (stepped_counted v step reply mid one.0 is)
+  by_road : (road : Road) (v : Traced N E F S) (step : PlainStep) (reply : Reply) (w : Traced N E F S) → TraceIsReady g h v →
+      StepBy sg road v step reply w → IsCounted (skeleton_of v) → TraceIsReady g h w × IsCounted (skeleton_of w)
+  by_road Caching v step reply w ready goes is =
+      let one = steps v step reply w ready goes in
+      (one.1, stepped_counted v step reply w one.0 is)
+  by_road Asking v step reply w ready (start, asks, goes) is =
+      let asked = setup.asked v start ready asks in
+      let one = steps start step reply w asked.ready goes in
+      (one.1, stepped_counted start step reply w one.0 (subst IsCounted (sym asked.keeps.skeleton) is))
+
+  run_counted : (road : Road) (v : Traced N E F S) (steps_run : List PlainStep) (replies : List Reply) (w : Traced N E F S) →
+      TraceIsReady g h v → RunGives sg road v steps_run replies w → IsCounted (skeleton_of v) → IsCounted (skeleton_of w)
+  run_counted road v [] [] w ready same is = subst (λ (u : Traced N E F S). IsCounted (skeleton_of u)) (sym same) is
+  run_counted road v [] (reply ∷ replies) w ready goes is = absurd goes
+  run_counted road v (step ∷ later) [] w ready goes is = absurd goes
+  run_counted road v (step ∷ later) (reply ∷ replies) w ready (mid, goes, rest) is =
+      let one = by_road road v step reply mid ready goes is in
+      run_counted road mid later replies w one.0 rest one.1
 
   pub trace_stays_counted : TraceStaysCounted n line_of g takes h sg
   trace_stays_counted = record {
@@ -79,5 +89,6 @@ module _ {N E F S : Type 0} (n : Ghosts N) (line_of : E → Settings → PlainCo
     swapped = λ v output filter reply w back ready own goes is. subst IsCounted
         (sym (setup.swapped v output filter reply w back ready own goes).skeleton) is;
     stepped = λ v step reply w ready goes is. stepped_counted v step reply w (steps v step reply w ready goes).0 is;
-    ran = λ v run replies w ready goes is. run_counted v run replies w ready goes is;
+    asked = λ v w ready asks is. subst IsCounted (sym (setup.asked v w ready asks).keeps.skeleton) is;
+    ran = λ road v run replies w ready goes is. run_counted road v run replies w ready goes is;
   }

@@ -22,7 +22,7 @@ use Rattle.span_tracing_skeleton.specs.PlainData.{PlainStep}
 use Rattle.span_tracing_skeleton.specs.declared.call.Reply.{Reply}
 use Rattle.span_tracing_steps.specs.States.{stack_in}
 use Rattle.span_tracing_laws.specs.runs.Files.{FileTrace, FilesFollow, FilesStand, SinksTakeTheirs, routed_at}
-use Rattle.span_tracing_laws.specs.runs.Runs.{RunFollows, SinksTake, StepWithMask, lines_of}
+use Rattle.span_tracing_laws.specs.runs.Runs.{Road, RunFollows, SinksTake, StepWithMask, lines_of}
 
 module _ {N E F D : Type 0} (contents : D → Option Contents) (failed : D → ℕ) (n : Ghosts N) (line_of : E → Settings → PlainContext →
     PlainEvent → Option (List ℕ)) (g : FilterGhosts F) (h : LayerGhosts (Lines N E))
@@ -46,9 +46,9 @@ module _ {N E F D : Type 0} (contents : D → Option Contents) (failed : D → �
   taken_by (Some x) (Some y) place olds runs w at =
       let one = each.one place runs x.sinks y.sinks olds w at in (one.0, one.1, one.2, one.3, theirs one.0 olds one.1 one.4)
 
-  sinks_take : (v : FileTrace N E F D) (steps : List PlainStep) (replies : List Reply) (w : FileTrace N E F D)
-      (run : RunFollows n line_of g takes h v steps replies w) → SinksTakeTheirs contents failed n line_of g v run.turns w
-  sinks_take v steps replies w run p agrees stack place olds at = taken_by (stack_in v stack) (stack_in w stack) place olds
+  sinks_take : (road : Road) (v : FileTrace N E F D) (steps : List PlainStep) (replies : List Reply) (w : FileTrace N E F D)
+      (run : RunFollows n line_of g takes h road v steps replies w) → SinksTakeTheirs contents failed n line_of g v run.turns w
+  sinks_take road v steps replies w run p agrees stack place olds at = taken_by (stack_in v stack) (stack_in w stack) place olds
       (lines_of n p run.turns stack) ((run.agreed p agrees).2 stack) at
 
   same_some : {A : Type 0} (x y : A) (o : Option A) → o ≡ Some x → o ≡ Some y → x ≡ y
@@ -66,8 +66,8 @@ module _ {N E F D : Type 0} (contents : D → Option Contents) (failed : D → �
       (taken.0, taken.2, stand run old new (subst (TakesRun (TakesLine contents failed) run old) also one.2) none s keeps c known)
 
   pub files_follow : FilesFollow contents failed n line_of g h
-  files_follow v steps replies w run = record {
+  files_follow road v steps replies w run = record {
     run = run;
-    sinks = sinks_take v steps replies w run;
-    files = files_stand v run.turns w (sinks_take v steps replies w run);
+    sinks = sinks_take road v steps replies w run;
+    files = files_stand v run.turns w (sinks_take road v steps replies w run);
   }

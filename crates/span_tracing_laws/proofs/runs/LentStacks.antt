@@ -8,7 +8,7 @@ use Rattle.tracing_core_fields.specs.PlainMetadata.{PlainMetadata}
 use Rattle.tracing_core_fields.specs.requests.Calls.{CallsiteRegistered, HintAsked}
 use Rattle.tracing_core_fields.specs.requests.Interests.{PlainInterest}
 use Rattle.tracing_core_fields.specs.declared.requests.subscriber.Subscriber.{Ghosts}
-use Rattle.tracing_core.specs.CacheRefresh.{Refreshed}
+use Rattle.tracing_core.specs.CacheRefresh.{Formed, Rebuilt, Refreshed}
 use Rattle.tracing_core_fields.specs.requests.Lists.{Every}
 use Rattle.tracing_core.specs.Commands.{becomes, callsite_with, living, new_callsite}
 use Rattle.tracing_core.specs.Handles.{changed, is_of, subscriber_with}
@@ -116,27 +116,27 @@ module _ {T : Type 0} (registry_of : T → RegistryValue) where
       (asked : (x : T) (m : PlainMetadata) (k : PlainInterest) (y : T) → Unit {0} → g.moves x (CallsiteRegistered m) k y →
       registry_of y ≡ registry_of x)
       (hinted : (x y : T) (hint : Option ℕ) → Unit {0} → g.moves x HintAsked hint y → registry_of y ≡ registry_of x) where
-    rows_map : (before after : ℕ × List (KeptSubscriber T)) (rows laters : List (KeptCallsite TraceCallsite)) →
-        Each (RowAsked g ghosts false) before rows laters after → callsites_of laters ≡ callsites_of rows
-    rows_map before after [] [] each = refl
-    rows_map before after [] (later ∷ laters) each = absurd each
-    rows_map before after (row ∷ rows) [] each = absurd each
-    rows_map before after (row ∷ rows) (later ∷ laters) each =
+    rows_map : (all : Bool) (before after : ℕ × List (KeptSubscriber T)) (rows laters : List (KeptCallsite TraceCallsite)) →
+        Each (RowAsked g ghosts all) before rows laters after → callsites_of laters ≡ callsites_of rows
+    rows_map all before after [] [] each = refl
+    rows_map all before after [] (later ∷ laters) each = absurd each
+    rows_map all before after (row ∷ rows) [] each = absurd each
+    rows_map all before after (row ∷ rows) (later ∷ laters) each =
         ap (λ (m : PlainMetadata). m ∷ callsites_of laters) each.1.1.1
-        ∙ ap (λ (ms : List PlainMetadata). own_metadata row.callsite ∷ ms) (rows_map each.0 after rows laters each.2)
+        ∙ ap (λ (ms : List PlainMetadata). own_metadata row.callsite ∷ ms) (rows_map all each.0 after rows laters each.2)
 
     -- so asking anew changes nothing that decides replies
-    pub formed_skeleton : (v w : StateValue T) (t : Table T TraceCallsite) → Refreshed g ghosts t w.hub → w ≡ record v { hub = w.hub } →
-        skeleton_of registry_of w ≡ skeleton_of registry_of (record v { hub = t })
-    formed_skeleton v w t formed left =
+    pub formed_skeleton : (all : Bool) (v w : StateValue T) (t : Table T TraceCallsite) → Formed g ghosts all t w.hub →
+        w ≡ record v { hub = w.hub } → skeleton_of registry_of w ≡ skeleton_of registry_of (record v { hub = t })
+    formed_skeleton all v w t formed left =
         let pairs : KeepSpans t.subscribers w.hub.subscribers =
         formed_pairs g ghosts (λ x. Unit {0}) (λ x y. registry_of y ≡ registry_of x) (λ x is. refl) (λ x y kept. tt)
-        (λ x y z one two. two ∙ one) asked hinted false t w.hub formed in
+        (λ x y z one two. two ∙ one) asked hinted all t w.hub formed in
         let before : Skeleton = skeleton_of registry_of (record v { hub = t }) in
         ap (skeleton_of registry_of) left
         ∙ ap (λ (u : Table T TraceCallsite). skeleton_of registry_of (record v { hub = u })) formed.rest
         ∙ ap (λ (ms : List PlainMetadata). record before { callsites = ms; stacks = map hs w.hub.subscribers })
-        (rows_map (0, t.subscribers) (formed.callsites.0, formed.asked) t.callsites w.hub.callsites formed.callsites.1)
+        (rows_map all (0, t.subscribers) (formed.callsites.0, formed.asked) t.callsites w.hub.callsites formed.callsites.1)
         ∙ ap (λ (ks : List HeldStack). record before { stacks = ks }) (pairs_map t.subscribers w.hub.subscribers pairs)
 
     -- where a stack is lent
@@ -144,7 +144,7 @@ module _ {T : Type 0} (registry_of : T → RegistryValue) where
         Refreshed g ghosts (lent_in v.hub stack y) w.hub → w ≡ record v { hub = w.hub } →
         skeleton_of registry_of w ≡ skeleton_of registry_of v
     asked_skeleton v w stack x y there spans formed left =
-        formed_skeleton v w (lent_in v.hub stack y) formed left
+        formed_skeleton false v w (lent_in v.hub stack y) formed left
         ∙ ap (λ (ks : List HeldStack). record (skeleton_of registry_of v) { stacks = ks }) (lent_skeleton v stack x y there spans)
 
     -- where one is added
@@ -154,7 +154,7 @@ module _ {T : Type 0} (registry_of : T → RegistryValue) where
     added_skeleton v w x z count same formed left =
         let next = v.hub.next in
         let after : T → Skeleton = λ y. with_stack (skeleton_of registry_of v) (bare (registry_of y)) count in
-        formed_skeleton (added_to v count) w (with_new v.hub z) formed left
+        formed_skeleton false (added_to v count) w (with_new v.hub z) formed left
         ∙ ap (λ (ks : List HeldStack). record (after z) { stacks = ks; handles = map inner (v.handles ++ Some (Some next) ∷ []) })
         (map-append hs v.hub.subscribers (living next z ∷ []))
         ∙ ap (λ (ns : List (Option ℕ)). record (after z) { handles = ns }) (map-append inner v.handles (Some (Some next) ∷ []))
@@ -189,6 +189,28 @@ module _ {T : Type 0} (g : Ghosts T) where
   found_again u n d f own valid there =
       let both : Some d ≡ Some f = sym valid.stands ∙ ap (λ (k : ℕ). subscriber_with k u.subscribers) own ∙ there in
       let same : d ≡ f = cc in subst (HasValidCache g ghosts u) same valid
+
+  -- once all were asked, what is kept is right of each that is consistent
+  pub asked_word : (v w : StateValue T) → IsSound ghosts v.hub → Rebuilt g ghosts v.hub w.hub →
+      ((n : ℕ) (x : T) → held_in v n ≡ Some x → g.steady x) → KeepsWord g w
+  asked_word v w sound formed steady = record {
+    sound = (form_keeps g ghosts true v.hub w.hub formed).sound sound;
+    valid = λ n f after. of_row n f (subscriber_with n v.hub.subscribers) after refl;
+  } where
+    of_row : (n : ℕ) (f : KeptSubscriber T) (o : Option (KeptSubscriber T)) → subscriber_with n w.hub.subscribers ≡ Some f →
+        subscriber_with n v.hub.subscribers ≡ o → HasValidCache g ghosts w.hub f
+    of_row n f None there none =
+        let keeps = form_keeps g ghosts true v.hub w.hub formed in
+        let next : w.hub.next ≡ v.hub.next = ap (λ (t : Table T TraceCallsite). t.next) formed.rest in
+        let below : n < v.hub.next = subst (λ (k : ℕ). n < k) next
+        (below_next n 0 w.hub.next w.hub.subscribers f (keeps.sound sound).numbers there) in
+        let gone = (keeps.later sound).gone n below none in
+        absurd (let clash : Some f ≡ None = sym there ∙ gone in cc)
+    of_row n f (Some e) there is =
+        let own : e.serial ≡ n = serial_is g n v.hub.subscribers e is in
+        let stands : subscriber_with e.serial v.hub.subscribers ≡ Some e = ap (λ (k : ℕ). subscriber_with k v.hub.subscribers) own ∙ is in
+        let a = formed_right g ghosts true v.hub w.hub formed e (inl refl) stands (steady n e.subscriber (ap kept_value is)) sound.sites in
+        found_again w.hub n (asked_anew a.0 a.1 a.2 e) f own a.3 there
 
   module _ (v w : StateValue T) (stack : ℕ) (y : T) (word : KeepsWord g v) (formed : Refreshed g ghosts (lent_in v.hub stack y) w.hub) where
     abbrev lent : Table T TraceCallsite

@@ -24,11 +24,12 @@ use Rattle.span_tracing_skeleton.specs.PlainData.{PlainStep}
 use Rattle.span_tracing_skeleton.specs.Skeleton.{Skeleton, Answers}
 use Rattle.span_tracing_skeleton.specs.declared.call.Reply.{Reply}
 use Rattle.span_tracing_steps.specs.States.{stack_in}
+use Rattle.span_tracing_laws.specs.runs.KeptStacks.{OutsAgree, StackStays}
 use Rattle.span_tracing_laws.specs.runs.StepFollows.{Follows, FollowsStep, OutputsFollow, TraceIsReady, Traced, skeleton_of}
-use Rattle.span_tracing_laws.specs.runs.Laws.{StepsFollow}
-use Rattle.span_tracing_laws.specs.runs.Runs.{AgreesPlain, OutsAgree, Plain, RunFollows, RunGives, SinksTake, Starved, StepWithMask}
-use Rattle.span_tracing_laws.specs.runs.Runs.{TurnGoes, TurnsGo, Went, lines_left, lines_of, none_for, outs_left, plain_after, plain_reply}
-use Rattle.span_tracing_laws.specs.runs.Runs.{plain_run, replies_of, steps_of, turn_lines}
+use Rattle.span_tracing_laws.specs.runs.Laws.{RunsFollow, SetupFollows, StepsFollow}
+use Rattle.span_tracing_laws.specs.runs.Runs.{AgreesPlain, Asking, Caching, Plain, Road, RunGives, SinksTake, Starved, StepWithMask}
+use Rattle.span_tracing_laws.specs.runs.Runs.{StepBy, TurnBy, TurnGoes, TurnsGo, Went, lines_left, lines_of, none_for, outs_left, plain_after, plain_reply}
+use Rattle.span_tracing_laws.specs.runs.Runs.{plain_run, replies_of, step_of, steps_of, turn_lines}
 use Rattle.span_tracing_laws.specs.runs.StepNotices.{Told, told_of, told_to}
 use Rattle.span_tracing_laws.specs.runs.StepSettings.{OutputSetting, outs_with, setting_of, stack_with}
 use Rattle.span_tracing_laws.proofs.runs.Settings.{set_agrees}
@@ -163,6 +164,27 @@ module _ {N E F S : Type 0} (n : Ghosts N) (line_of : E → Settings → PlainCo
         subst (λ (u : Traced N E F S). TurnAgrees v (Starved step) reply u p) (sym same)
         (told, agrees, λ stack. stays (stack_in v stack) (p.outs stack) (agrees.1 stack))
 
+    -- being asked leaves the sinks
+    asked_before : (o s p : Option Stack) (runs : List (List (At × PlainLine))) → StackStays o s → SinksTake n line_of g takes s p runs →
+        SinksTake n line_of g takes o p runs
+    asked_before None None p runs stays w = w
+    asked_before None (Some y) p runs stays w = absurd stays
+    asked_before (Some x) None p runs stays w = absurd stays
+    asked_before (Some x) (Some y) None runs stays w = w
+    asked_before (Some x) (Some y) (Some z) runs stays w = subst (λ (ss : List S). RunsEach takes runs ss z.sinks) stays.sinks w
+
+    turn_by : (road : Road) (v : Traced N E F S) (t : StepWithMask) (reply : Reply) (w : Traced N E F S) (p : Plain N) →
+        TurnBy n line_of g takes h road v t reply w → AgreesPlain n line_of g v p → TurnAgrees v t reply w p
+    turn_by Caching v t reply w p goes agrees = turn_agrees v t reply w p goes agrees
+    turn_by Asking v t reply w p (start, keeps, goes) agrees =
+        let one = turn_agrees start t reply w p goes
+        (keeps.skeleton ∙ agrees.0, λ stack. (keeps.stacks stack).agrees (p.outs stack) (agrees.1 stack)) in (
+          one.0,
+          one.1,
+          λ stack. asked_before (stack_in v stack) (stack_in start stack) (stack_in w stack) (turn_lines n p t stack)
+              (keeps.stacks stack).stays (one.2 stack),
+        )
+
     append : (o p q : Option Stack) (ones twos : List (List (At × PlainLine))) → SinksTake n line_of g takes o p ones →
         SinksTake n line_of g takes p q twos → SinksTake n line_of g takes o q (joined ones twos)
     append None None None ones twos a b = ap (λ (runs : List (List (At × PlainLine))). joined runs twos) a
@@ -176,46 +198,64 @@ module _ {N E F S : Type 0} (n : Ghosts N) (line_of : E → Settings → PlainCo
     RunAgrees v turns replies w p = (replies ≡ replies_of n p turns) × AgreesPlain n line_of g w (plain_run n p turns) ×
         AllTake v w (lines_of n p turns)
 
-    run_agrees : (v : Traced N E F S) (turns : List StepWithMask) (replies : List Reply) (w : Traced N E F S) (p : Plain N) →
-        TurnsGo n line_of g takes h v turns replies w → AgreesPlain n line_of g v p → RunAgrees v turns replies w p
-    run_agrees v [] [] w p same agrees = subst (λ (u : Traced N E F S). RunAgrees v [] [] u p) (sym same)
+    run_agrees : (road : Road) (v : Traced N E F S) (turns : List StepWithMask) (replies : List Reply) (w : Traced N E F S) (p : Plain N) →
+        TurnsGo n line_of g takes h road v turns replies w → AgreesPlain n line_of g v p → RunAgrees v turns replies w p
+    run_agrees road v [] [] w p same agrees = subst (λ (u : Traced N E F S). RunAgrees v [] [] u p) (sym same)
         (refl, agrees, λ stack. stays (stack_in v stack) (p.outs stack) (agrees.1 stack))
-    run_agrees v [] (reply ∷ replies) w p goes agrees = absurd goes
-    run_agrees v (t ∷ ts) [] w p goes agrees = absurd goes
-    run_agrees v (t ∷ ts) (reply ∷ replies) w p (mid, first, rest) agrees =
-        let one = turn_agrees v t reply mid p first agrees in
-        let others = run_agrees mid ts replies w (plain_after n p t) rest one.1 in (
+    run_agrees road v [] (reply ∷ replies) w p goes agrees = absurd goes
+    run_agrees road v (t ∷ ts) [] w p goes agrees = absurd goes
+    run_agrees road v (t ∷ ts) (reply ∷ replies) w p (mid, first, rest) agrees =
+        let one = turn_by road v t reply mid p first agrees in
+        let others = run_agrees road mid ts replies w (plain_after n p t) rest one.1 in (
           ap (λ (r : Reply). r ∷ replies) one.0 ∙ ap (λ (rs : List Reply). plain_reply n p t ∷ rs) others.0,
           others.1,
           λ stack. append (stack_in v stack) (stack_in mid stack) (stack_in w stack) (turn_lines n p t stack)
               (lines_of n (plain_after n p t) ts stack) (one.2 stack) (others.2 stack),
         )
 
-    module _ (sg : SubscriberGhosts Stack) (law : StepsFollow n line_of g takes h sg) where
-      abbrev Run : Traced N E F S → List PlainStep → List Reply → Traced N E F S → Type 0
-      Run v steps replies w = (turns : List StepWithMask) × (steps_of turns ≡ steps) × TurnsGo n line_of g takes h v turns replies w ×
+    module _ (sg : SubscriberGhosts Stack) (law : StepsFollow n line_of g takes h sg) (setup : SetupFollows n line_of g takes h sg) where
+      abbrev TurnWith : Road → Traced N E F S → PlainStep → Reply → Traced N E F S → Type 0
+      TurnWith road v step reply w = (t : StepWithMask) × (step_of t ≡ step) × TurnBy n line_of g takes h road v t reply w ×
           TraceIsReady g h w
 
-      more : (v : Traced N E F S) (step : PlainStep) (steps : List PlainStep) (reply : Reply) (replies : List Reply)
-          (mid w : Traced N E F S) → Follows n line_of g takes h v step reply mid → Run mid steps replies w →
-          Run v (step ∷ steps) (reply ∷ replies) w
-      more v step steps reply replies mid w (inl f) rest =
-          (Went step f.answers f.fates ∷ rest.0, ap (λ (ss : List PlainStep). step ∷ ss) rest.1, (mid, (f, refl, refl), rest.2), rest.3)
-      more v step steps reply replies mid w (inr f) rest =
-          (Starved step ∷ rest.0, ap (λ (ss : List PlainStep). step ∷ ss) rest.1, (mid, f, rest.2), rest.3)
+      turned : (v : Traced N E F S) (step : PlainStep) (reply : Reply) (w : Traced N E F S) →
+          Follows n line_of g takes h v step reply w → (t : StepWithMask) × (step_of t ≡ step) × TurnGoes n line_of g takes h v t reply w
+      turned v step reply w (inl f) = (Went step f.answers f.fates, refl, (f, refl, refl))
+      turned v step reply w (inr f) = (Starved step, refl, f)
 
-      runs : (v : Traced N E F S) (steps : List PlainStep) (replies : List Reply) (w : Traced N E F S) → TraceIsReady g h v →
-          RunGives sg v steps replies w → Run v steps replies w
-      runs v [] [] w ready same = ([], refl, same, subst (TraceIsReady g h) (sym same) ready)
-      runs v [] (reply ∷ replies) w ready goes = absurd goes
-      runs v (step ∷ steps) [] w ready goes = absurd goes
-      runs v (step ∷ steps) (reply ∷ replies) w ready (mid, first, rest) =
-          let one = law v step reply mid ready first in
-          more v step steps reply replies mid w one.0 (runs mid steps replies w one.1 rest)
+      turn_with : (road : Road) (v : Traced N E F S) (step : PlainStep) (reply : Reply) (w : Traced N E F S) → TraceIsReady g h v →
+          StepBy sg road v step reply w → TurnWith road v step reply w
+      turn_with Caching v step reply w ready gives =
+          let one = law v step reply w ready gives in
+          let turn = turned v step reply w one.0 in
+          (turn.0, turn.1, turn.2, one.1)
+      turn_with Asking v step reply w ready (start, asks, gives) =
+          let asked = setup.asked v start ready asks in
+          let one = law start step reply w asked.ready gives in
+          let turn = turned start step reply w one.0 in
+          (turn.0, turn.1, (start, asked.keeps, turn.2), one.1)
 
-      pub run_follows : (v : Traced N E F S) (steps : List PlainStep) (replies : List Reply) (w : Traced N E F S) →
-          TraceIsReady g h v →
-          RunGives sg v steps replies w → RunFollows n line_of g takes h v steps replies w × TraceIsReady g h w
-      run_follows v steps replies w ready goes =
-          let run = runs v steps replies w ready goes in
-          (record { turns = run.0; each = run.1; goes = run.2; agreed = λ p agrees. run_agrees v run.0 replies w p run.2 agrees }, run.3)
+      abbrev Run : Road → Traced N E F S → List PlainStep → List Reply → Traced N E F S → Type 0
+      Run road v steps replies w = (turns : List StepWithMask) × (steps_of turns ≡ steps) ×
+          TurnsGo n line_of g takes h road v turns replies w × TraceIsReady g h w
+
+      runs : (road : Road) (v : Traced N E F S) (steps : List PlainStep) (replies : List Reply) (w : Traced N E F S) → TraceIsReady g h v →
+          RunGives sg road v steps replies w → Run road v steps replies w
+      runs road v [] [] w ready same = ([], refl, same, subst (TraceIsReady g h) (sym same) ready)
+      runs road v [] (reply ∷ replies) w ready goes = absurd goes
+      runs road v (step ∷ steps) [] w ready goes = absurd goes
+      runs road v (step ∷ steps) (reply ∷ replies) w ready (mid, first, rest) =
+          let one = turn_with road v step reply mid ready first in
+          let others = runs road mid steps replies w one.3 rest in (
+            one.0 ∷ others.0,
+            ap (λ (s : PlainStep). s ∷ steps_of others.0) one.1 ∙ ap (λ (ss : List PlainStep). step ∷ ss) others.1,
+            (mid, one.2, others.2),
+            others.3,
+          )
+
+      pub run_follows : RunsFollow n line_of g takes h sg
+      run_follows road v steps replies w ready goes =
+          let run = runs road v steps replies w ready goes in (
+            record { turns = run.0; each = run.1; goes = run.2; agreed = λ p agrees. run_agrees road v run.0 replies w p run.2 agrees },
+            run.3,
+          )

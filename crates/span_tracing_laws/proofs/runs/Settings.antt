@@ -11,7 +11,7 @@ use Rattle.span_tracing_outputs.specs.OutputSettings.{out_set, outs_set, stack_s
 use Rattle.span_tracing_outputs.specs.TraceStacks.{TraceStackValue}
 use Rattle.span_tracing_outputs.proofs.OutputSettings.{count_set, each_agrees}
 use Rattle.span_tracing_skeleton.specs.declared.setting.Setting.{Setting}
-use Rattle.span_tracing_laws.specs.runs.Runs.{OutsAgree}
+use Rattle.span_tracing_laws.specs.runs.KeptStacks.{OutsAgree}
 use Rattle.span_tracing_laws.specs.runs.StepSettings.{OutputSetting, outs_with, stack_with}
 
 module _ {N E F S : Type 0} (n : Ghosts N) (line_of : E → Settings → PlainContext → PlainEvent → Option (List ℕ)) (g : FilterGhosts F) where

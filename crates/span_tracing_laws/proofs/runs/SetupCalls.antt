@@ -41,6 +41,7 @@ use Rattle.span_tracing_skeleton.specs.declared.call.Reply.{Reply}
 use Rattle.span_tracing_skeleton.specs.declared.refusal.Refusal.{Refusal}
 use Rattle.span_tracing_skeleton.specs.declared.refusal.Refusal.TheVariants.{OutOfMemory, ReleasedStack}
 use Rattle.span_tracing_skeleton.specs.declared.setting.OutputPlace.{OutputPlace}
+use Rattle.span_tracing_steps.specs.Asking.{AsksAnew}
 use Rattle.span_tracing_steps.specs.FilterSwaps.{OutputSwaps, StackSwaps, SwapGives, SwapUnless, lent_in}
 use Rattle.span_registry_layers_store.specs.SlotIndependence.{bare}
 use Rattle.span_tracing_skeleton.specs.Setup.{with_callsite, with_stack}
@@ -51,11 +52,11 @@ use Rattle.span_tracing_steps.specs.contracts.callsite.TraceCallsiteCallsite.The
 use Rattle.span_tracing_steps.specs.declared.callsite.TraceCallsite.{TraceCallsite}
 use Rattle.span_tracing_laws.specs.runs.SwappedOutputs.{filter_set, stack_filtered, swapped_at}
 use Rattle.span_tracing_laws.specs.runs.StepFollows.{TraceIsReady, Traced, registry_of, skeleton_of}
-use Rattle.span_tracing_laws.specs.runs.Laws.{OutputsStay, Registers, SetupFollows, StackKeeps, StackStays, SwapFollows}
-use Rattle.span_tracing_laws.specs.runs.Runs.{OutsAgree}
+use Rattle.span_tracing_laws.specs.runs.Laws.{AskedFollows, Registers, SetupFollows, SwapFollows}
+use Rattle.span_tracing_laws.specs.runs.KeptStacks.{OutputsStay, OutsAgree, StackKeeps, StackStays}
 use Rattle.span_tracing_laws.proofs.runs.AskedStacks.{Alike, Pairs, appended_other, appended_own, formed_pairs, joined_pairs, pairs_at}
 use Rattle.span_tracing_laws.proofs.runs.HubStacks.{held_there, none_appended, with_number}
-use Rattle.span_tracing_laws.proofs.runs.LentStacks.{added_skeleton, asked_skeleton, lent_other, lent_own, named_there, registered_skeleton, swapped_word, with_new}
+use Rattle.span_tracing_laws.proofs.runs.LentStacks.{added_skeleton, asked_skeleton, asked_word, formed_skeleton, lent_other, lent_own, named_there, registered_skeleton, swapped_word, with_new}
 
 module _ {N E F S : Type 0} (n : Ghosts N) (line_of : E → Settings → PlainContext → PlainEvent → Option (List ℕ)) (g : FilterGhosts F)
     (takes : S → At → PlainLine → S → Type 0) (h : LayerGhosts (Lines N E)) (sg : SubscriberGhosts (TraceStackValue N E F S))
@@ -118,7 +119,7 @@ module _ {N E F S : Type 0} (n : Ghosts N) (line_of : E → Settings → PlainCo
   AlikeStacks o p = Alike {T = Stack} (IsReady g) Kept o p
 
   abbrev Keeps : Option Stack → Option Stack → Type 0
-  Keeps o p = StackKeeps n line_of g takes h sg o p
+  Keeps o p = StackKeeps n line_of g o p
 
   keeps_same : (o : Option Stack) → Keeps o o
   keeps_same None = record { stays = tt; agrees = λ outs a. a }
@@ -406,5 +407,27 @@ module _ {N E F S : Type 0} (n : Ghosts N) (line_of : E → Settings → PlainCo
       swap_at v w output filter back reply (output_at (skeleton_of v) output) (output_refusal (skeleton_of v) output) ready own refl refl
       goes
 
+  -- all are asked anew
+  asked_goes : (v w : Traced N E F S) → TraceIsReady g h v → AsksAnew sg v w → AskedFollows n line_of g takes h sg v w
+  asked_goes v w ready (formed, left) =
+      let es = v.hub.subscribers in
+      let retired : w.retired ≡ v.retired = ap (λ (u : Traced N E F S). u.retired) left in
+      let pairs : Pairs {T = Stack} (IsReady g) Kept es w.hub.subscribers =
+      formed_pairs sg ghosts (IsReady g) Kept same_kept kept_ready onward asked hinted true v.hub w.hub formed in
+      let alike = λ (number : ℕ). pairs_at (IsReady g) Kept number es w.hub.subscribers pairs in
+      record {
+        ready = record {
+          sound = (form_keeps sg ghosts true v.hub w.hub formed).sound ready.sound;
+          given = ap length retired ∙ ready.given ∙ sym (ap (λ (t : Table Stack TraceCallsite). t.next) formed.rest);
+          stacks = λ number y at. ready_alike (held_in v number) (held_in w number) y (ready.stacks number) (alike number) at;
+        };
+        keeps = record {
+          skeleton = formed_skeleton registry_of sg spans_asked spans_hinted true v w v.hub formed left;
+          stacks = λ stack. keeps_alike (held_in v stack) (held_in w stack) (slice_get v.retired stack) (slice_get w.retired stack)
+              (ready.stacks stack) (alike stack) (ap (λ (rs : List (Option Stack)). inner (slice_get rs stack)) retired);
+        };
+        word = asked_word sg v w ready.sound formed (λ number x there. steady x (ready.stacks number x there).valid);
+      }
+
   pub setup_follows : SetupFollows n line_of g takes h sg
-  setup_follows = record { added = added_goes; registered = registered_goes; swapped = swap_goes }
+  setup_follows = record { added = added_goes; registered = registered_goes; swapped = swap_goes; asked = asked_goes }

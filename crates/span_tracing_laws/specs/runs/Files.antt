@@ -21,7 +21,7 @@ use Rattle.span_tracing_skeleton.specs.PlainData.{PlainStep}
 use Rattle.span_tracing_skeleton.specs.declared.call.Reply.{Reply}
 use Rattle.span_tracing_steps.specs.States.{stack_in}
 use Rattle.span_tracing_laws.specs.runs.StepFollows.{Traced}
-use Rattle.span_tracing_laws.specs.runs.Runs.{AgreesPlain, Plain, RunFollows, StepWithMask, lines_of}
+use Rattle.span_tracing_laws.specs.runs.Runs.{AgreesPlain, Plain, Road, RunFollows, StepWithMask, lines_of}
 
 -- the sinks of the output at a place, with their route
 abbrev pub routed_at : {N E F S : Type 0} → Option (TraceStackValue N E F (Routed S)) → ℕ → Option (Routed S)
@@ -59,11 +59,12 @@ module _ {N E F D : Type 0} (contents : D → Option Contents) (failed : D → �
 
   module _ (h : LayerGhosts (Lines N E)) where
     -- a run, what its sinks took, and what their files hold
-    pub record RunsToFiles (v : FileTrace N E F D) (steps : List PlainStep) (replies : List Reply) (w : FileTrace N E F D) : Type 0 where
-      pub run : RunFollows n line_of g (TakesRouted (TakesLine contents failed)) h v steps replies w
+    pub record RunsToFiles (road : Road) (v : FileTrace N E F D) (steps : List PlainStep) (replies : List Reply) (w : FileTrace N E F D) :
+        Type 0 where
+      pub run : RunFollows n line_of g (TakesRouted (TakesLine contents failed)) h road v steps replies w
       pub sinks : SinksTakeTheirs v run.turns w
       pub files : FilesStand v run.turns w
 
     abbrev pub FilesFollow : Type 0
-    FilesFollow = (v : FileTrace N E F D) (steps : List PlainStep) (replies : List Reply) (w : FileTrace N E F D) →
-        RunFollows n line_of g (TakesRouted (TakesLine contents failed)) h v steps replies w → RunsToFiles v steps replies w
+    FilesFollow = (road : Road) (v : FileTrace N E F D) (steps : List PlainStep) (replies : List Reply) (w : FileTrace N E F D) →
+        RunFollows n line_of g (TakesRouted (TakesLine contents failed)) h road v steps replies w → RunsToFiles road v steps replies w

@@ -1,10 +1,11 @@
 -- Laws of steps and runs.
-use Rattle.std.specs.Prelude.{◌≡◌, ◌==◌, if◌then◌else◌, is_some, Err, ℕ, false, List, map, Option, Some, None, Result, Ok}
+use Rattle.std.specs.Prelude.{◌≡◌, ◌==◌, if◌then◌else◌, is_some, Err, ℕ, false, List, Option, Some, Result, Ok}
 use Rattle.tracing_core_fields.specs.PlainMetadata.{PlainMetadata}
 use Rattle.tracing_core_fields.specs.requests.Interests.{PlainInterest}
 use Rattle.span_tracing_outputs.specs.OutputFolds.{Numbered}
 use Rattle.span_tracing_outputs.specs.TraceFollows.{IsReady}
 use Rattle.span_tracing_skeleton.specs.declared.refusal.Refusal.{Refusal}
+use Rattle.span_tracing_steps.specs.Asking.{AsksAnew}
 use Rattle.span_tracing_steps.specs.FilterSwaps.{SwapGives}
 use Rattle.span_tracing_steps.specs.Interests.{KeepsWord}
 use Rattle.span_tracing_steps.specs.Setup.{AddGives, RegisterGives, with_thread, without_retired}
@@ -13,7 +14,6 @@ use Rattle.tracing_core_moments.specs.declared.at.At.{At}
 use Rattle.tracing_core_fields.specs.declared.requests.subscriber.Subscriber.{Ghosts as SubscriberGhosts}
 use Rattle.span_registry_layers_layers.specs.declared.filter.Filter.{Ghosts as FilterGhosts}
 use Rattle.span_registry_layers_layers.specs.declared.layer.Layer.{Ghosts as LayerGhosts}
-use Rattle.span_registry_layers.specs.OutputSlots.{marked}
 use Rattle.event_formatter_text.specs.declared.format_fields.FormatFields.{Ghosts}
 use Rattle.event_formatter_text.specs.declared.settings.Settings.{Settings}
 use Rattle.event_formatter.specs.formats.Contexts.{PlainContext}
@@ -32,21 +32,9 @@ use Rattle.span_tracing_skeleton.specs.Setup.{with_callsite, with_stack}
 use Rattle.span_tracing_skeleton.specs.Skeleton.{Skeleton}
 use Rattle.span_tracing_steps.specs.Steps.{StepGives}
 use Rattle.span_tracing_laws.specs.runs.SwappedOutputs.{stack_filtered, swapped_at}
-use Rattle.span_tracing_laws.specs.runs.Runs.{OutsAgree, RunFollows, RunGives}
+use Rattle.span_tracing_laws.specs.runs.KeptStacks.{OutsAgree, StackKeeps, StackStays, TraceKeeps}
+use Rattle.span_tracing_laws.specs.runs.Runs.{Road, RunFollows, RunGives}
 use Rattle.span_tracing_laws.specs.runs.StepFollows.{Follows, TraceIsReady, Traced, registry_of, skeleton_of}
-
-module _ {N E F S : Type 0} where
-  -- the sinks are the same, and so are the spans, and the outputs with their filters but for what they were last told
-  pub record OutputsStay (x y : TraceStackValue N E F S) : Type 0 where
-    pub sinks : y.sinks ≡ x.sinks
-    pub registry : y.stack.registry ≡ x.stack.registry
-    pub rows : map (marked false) y.stack.rows ≡ map (marked false) x.stack.rows
-
-  abbrev pub StackStays : Option (TraceStackValue N E F S) → Option (TraceStackValue N E F S) → Type 0
-  StackStays None None = Unit {0}
-  StackStays None (Some y) = ⊥
-  StackStays (Some x) None = ⊥
-  StackStays (Some x) (Some y) = OutputsStay x y
 
 -- a callsite that isn't known is kept behind the others; a known one, and a refused call, change nothing
 abbrev pub Registers : Skeleton → PlainMetadata → Result PlainInterest Refusal → Skeleton → Type 0
@@ -61,16 +49,17 @@ module _ {N E F S : Type 0} (n : Ghosts N) (line_of : E → Settings → PlainCo
       StepGives sg registry_of stack_set v step reply w →
       Follows n line_of g takes h v step reply w × TraceIsReady g h w
 
-  -- so does a run of steps
+  -- so does a run of steps, on each road
   abbrev pub RunsFollow : Type 0
-  RunsFollow = (v : Traced N E F S) (steps : List PlainStep) (replies : List Reply) (w : Traced N E F S) → TraceIsReady g h v →
-      RunGives sg v steps replies w →
-      RunFollows n line_of g takes h v steps replies w × TraceIsReady g h w
+  RunsFollow = (road : Road) (v : Traced N E F S) (steps : List PlainStep) (replies : List Reply) (w : Traced N E F S) → TraceIsReady g h v →
+      RunGives sg road v steps replies w → RunFollows n line_of g takes h road v steps replies w × TraceIsReady g h w
 
-  -- a stack is the same but for what its filters and outputs were last told, and agrees with the machines that it agreed with
-  pub record StackKeeps (o p : Option (TraceStackValue N E F S)) : Type 0 where
-    pub stays : StackStays o p
-    pub agrees : (outs : List (Numbered N)) → OutsAgree n line_of g o outs → OutsAgree n line_of g p outs
+  -- A trace whose filters were all asked anew: it is ready, and keeps all but what filters and outputs were last told. What is kept of the
+  -- interest in callsites is right, whatever it was before.
+  pub record AskedFollows (v w : Traced N E F S) : Type 0 where
+    pub ready : TraceIsReady g h w
+    pub keeps : TraceKeeps n line_of g v w
+    pub word : KeepsWord sg w
 
   -- A trace whose output let another filter change places with its own: it is ready, and its skeleton is the same. The stack of the output
   -- has the filter there, all else of the stacks is the same but for what filters and outputs were last told, and outputs agree with the
@@ -89,16 +78,17 @@ module _ {N E F S : Type 0} (n : Ghosts N) (line_of : E → Settings → PlainCo
   -- lets filters change places leaves a trace so, too, but for that filter, where the one that comes is honest.
   pub record SetupFollows : Type 0 where
     pub added : (v : Traced N E F S) (x : TraceStackValue N E F S) (handle : ℕ) (w : Traced N E F S) → TraceIsReady g h v → IsReady g x →
-        AddGives sg outputs_in v x (Ok handle) w → TraceIsReady g h w × StackKeeps (Some x) (stack_in w v.hub.next) ×
-        ((stack : ℕ) → (stack == v.hub.next) ≡ false → StackKeeps (stack_in v stack) (stack_in w stack)) ×
+        AddGives sg outputs_in v x (Ok handle) w → TraceIsReady g h w × StackKeeps n line_of g (Some x) (stack_in w v.hub.next) ×
+        ((stack : ℕ) → (stack == v.hub.next) ≡ false → StackKeeps n line_of g (stack_in v stack) (stack_in w stack)) ×
         (skeleton_of w ≡ with_stack (skeleton_of v) (bare (registry_of x)) (outputs_in x))
     pub registered : (v : Traced N E F S) (m : PlainMetadata) (r : Result PlainInterest Refusal) (w : Traced N E F S) →
         TraceIsReady g h v → RegisterGives sg v m r w →
-        TraceIsReady g h w × ((stack : ℕ) → StackKeeps (stack_in v stack) (stack_in w stack)) ×
+        TraceIsReady g h w × ((stack : ℕ) → StackKeeps n line_of g (stack_in v stack) (stack_in w stack)) ×
         Registers (skeleton_of v) m r (skeleton_of w)
     pub swapped : (v : Traced N E F S) (output : ℕ) (filter : F) (reply : Reply) (w : Traced N E F S) (back : F) → TraceIsReady g h v →
         g.honest filter → SwapGives sg registry_of (λ x place f y b. StackSwap g x place f y b) v output filter reply w back →
         SwapFollows v output filter w
+    pub asked : (v w : Traced N E F S) → TraceIsReady g h v → AsksAnew sg v w → AskedFollows v w
 
   -- Each stack of a trace is held by as many as it counts: of a new trace, and of a ready one after each setup call, step and run. What
   -- follows from that the law of skeletons says (`StaysCounted`).
@@ -116,5 +106,6 @@ module _ {N E F S : Type 0} (n : Ghosts N) (line_of : E → Settings → PlainCo
         IsCounted (skeleton_of v) → IsCounted (skeleton_of w)
     pub stepped : (v : Traced N E F S) (step : PlainStep) (reply : Reply) (w : Traced N E F S) → TraceIsReady g h v →
         StepGives sg registry_of stack_set v step reply w → IsCounted (skeleton_of v) → IsCounted (skeleton_of w)
-    pub ran : (v : Traced N E F S) (steps : List PlainStep) (replies : List Reply) (w : Traced N E F S) → TraceIsReady g h v →
-        RunGives sg v steps replies w → IsCounted (skeleton_of v) → IsCounted (skeleton_of w)
+    pub asked : (v w : Traced N E F S) → TraceIsReady g h v → AsksAnew sg v w → IsCounted (skeleton_of v) → IsCounted (skeleton_of w)
+    pub ran : (road : Road) (v : Traced N E F S) (steps : List PlainStep) (replies : List Reply) (w : Traced N E F S) → TraceIsReady g h v →
+        RunGives sg road v steps replies w → IsCounted (skeleton_of v) → IsCounted (skeleton_of w)

@@ -1,5 +1,5 @@
 -- Runs of steps: the plain machine of a skeleton and output machines, and what a trace's run makes of it.
-use Rattle.std.specs.Prelude.{◌≡◌, ℕ, List, [], ◌∷◌, map, length, Option, Some, None}
+use Rattle.std.specs.Prelude.{◌≡◌, ℕ, List, [], ◌∷◌, map, Option, Some, None}
 use Rattle.tracing_core_fields.specs.requests.PlainRequests.{PlainEvent}
 use Rattle.tracing_core_moments.specs.declared.at.At.{At}
 use Rattle.tracing_core_fields.specs.declared.requests.subscriber.Subscriber.{Ghosts as SubscriberGhosts}
@@ -9,7 +9,7 @@ use Rattle.event_formatter_text.specs.declared.format_fields.FormatFields.{Ghost
 use Rattle.event_formatter_text.specs.declared.settings.Settings.{Settings}
 use Rattle.event_formatter.specs.formats.Contexts.{PlainContext}
 use Rattle.span_tracing_outputs.specs.OutputMachines.{PlainLine}
-use Rattle.span_tracing_outputs.specs.OutputFolds.{EachAgrees, Fates, Numbered, outs_told}
+use Rattle.span_tracing_outputs.specs.OutputFolds.{Fates, Numbered, outs_told}
 use Rattle.span_tracing_outputs.specs.TraceFollows.{at_rest, lines_offered}
 use Rattle.span_tracing_outputs.specs.TraceStacks.{TraceStackValue}
 use Rattle.span_tracing_outputs.specs.Turns.{Lines}
@@ -21,12 +21,19 @@ use Rattle.span_tracing_skeleton.specs.Skeleton.{Skeleton, Answers}
 use Rattle.span_tracing_skeleton.specs.declared.call.Reply.{Reply}
 use Rattle.span_tracing_skeleton.specs.declared.call.Reply.TheVariants.{Refused}
 use Rattle.span_tracing_skeleton.specs.declared.refusal.Refusal.TheVariants.{OutOfMemory}
+use Rattle.span_tracing_steps.specs.Asking.{AsksAnew}
 use Rattle.span_tracing_steps.specs.States.{stack_in}
 use Rattle.span_tracing_steps.specs.Steps.{StepGives}
+use Rattle.span_tracing_laws.specs.runs.KeptStacks.{OutsAgree, TraceKeeps}
 use Rattle.span_tracing_laws.specs.runs.StepFollows.{FindsNoMemory, FollowsStep, Traced, registry_of, skeleton_of}
 use Rattle.span_tracing_laws.specs.runs.StepNotices.{Told, told_of, told_to}
 use Rattle.span_tracing_laws.specs.runs.StepSettings.{outs_with, setting_of}
 use Rattle.span_tracing_outputs.specs.OutputSettings.{stack_set}
+
+-- The two roads of a run: by what is kept of filters' answers, or with each stack asked anew before each step.
+pub data Road : Type 0 where
+  Caching : Road
+  Asking : Road
 
 -- the state of the plain machine: what decides replies, and of each stack, by its number, the output machines
 pub record Plain (N : Type 0) : Type 0 where
@@ -90,14 +97,9 @@ module _ {N : Type 0} (n : Ghosts N) where
   lines_of p (t ∷ ts) stack = joined (turn_lines p t stack) (lines_of (plain_after p t) ts stack)
 
 module _ {N E F S : Type 0} (n : Ghosts N) (line_of : E → Settings → PlainContext → PlainEvent → Option (List ℕ)) (g : FilterGhosts F) where
-  -- each output keeps what its machine does, and has a sink
-  abbrev pub OutsAgree : Option (TraceStackValue N E F S) → List (Numbered N) → Type 0
-  OutsAgree None outs = outs ≡ []
-  OutsAgree (Some x) outs = EachAgrees n line_of g x.stack.registry x.stack.rows outs × (length x.sinks ≡ length outs)
-
   -- a trace has this skeleton, and the outputs of each stack agree with these machines, also of one that was released and isn't taken
   abbrev pub AgreesPlain : Traced N E F S → Plain N → Type 0
-  AgreesPlain v p = (skeleton_of v ≡ p.skeleton) × ((stack : ℕ) → OutsAgree (stack_in v stack) (p.outs stack))
+  AgreesPlain v p = (skeleton_of v ≡ p.skeleton) × ((stack : ℕ) → OutsAgree n line_of g (stack_in v stack) (p.outs stack))
 
   module _ (takes : S → At → PlainLine → S → Type 0) where
     -- each sink took its run
@@ -112,27 +114,37 @@ module _ {N E F S : Type 0} (n : Ghosts N) (line_of : E → Settings → PlainCo
       TurnGoes v (Went step a fates) reply w = (f : FollowsStep n line_of g takes h v step reply w) × (f.answers ≡ a) × (f.fates ≡ fates)
       TurnGoes v (Starved step) reply w = FindsNoMemory n line_of g takes h v step reply w
 
-      abbrev pub TurnsGo : Traced N E F S → List StepWithMask → List Reply → Traced N E F S → Type 0
-      TurnsGo v [] [] w = w ≡ v
-      TurnsGo v [] (reply ∷ replies) w = ⊥
-      TurnsGo v (t ∷ ts) [] w = ⊥
-      TurnsGo v (t ∷ ts) (reply ∷ replies) w = (mid : Traced N E F S) × TurnGoes v t reply mid × TurnsGo mid ts replies w
+      -- so on each road: where each stack is asked anew before, the trace keeps all else
+      abbrev pub TurnBy : Road → Traced N E F S → StepWithMask → Reply → Traced N E F S → Type 0
+      TurnBy Caching v t reply w = TurnGoes v t reply w
+      TurnBy Asking v t reply w = (start : Traced N E F S) × TraceKeeps n line_of g v start × TurnGoes start t reply w
+
+      abbrev pub TurnsGo : Road → Traced N E F S → List StepWithMask → List Reply → Traced N E F S → Type 0
+      TurnsGo road v [] [] w = w ≡ v
+      TurnsGo road v [] (reply ∷ replies) w = ⊥
+      TurnsGo road v (t ∷ ts) [] w = ⊥
+      TurnsGo road v (t ∷ ts) (reply ∷ replies) w = (mid : Traced N E F S) × TurnBy road v t reply mid × TurnsGo road mid ts replies w
 
       -- a run: with turns of these steps, each of which goes there and then, from each plain state that the trace agrees with the replies
       -- are the plain ones, the
       -- trace agrees with the plain state afterwards, and each sink took the lines of its output's machine
-      pub record RunFollows (v : Traced N E F S) (steps : List PlainStep) (replies : List Reply) (w : Traced N E F S) : Type 0 where
+      pub record RunFollows (road : Road) (v : Traced N E F S) (steps : List PlainStep) (replies : List Reply) (w : Traced N E F S) :
+          Type 0 where
         pub turns : List StepWithMask
         pub each : steps_of turns ≡ steps
-        pub goes : TurnsGo v turns replies w
+        pub goes : TurnsGo road v turns replies w
         pub agreed : (p : Plain N) → AgreesPlain v p → (replies ≡ replies_of n p turns) × AgreesPlain w (plain_run n p turns) ×
             ((stack : ℕ) → SinksTake (stack_in v stack) (stack_in w stack) (lines_of n p turns stack))
 
--- steps in order, each as it is given
-abbrev pub RunGives : {N E F S : Type 0} → SubscriberGhosts (TraceStackValue N E F S) → Traced N E F S → List PlainStep → List Reply →
-    Traced N E F S → Type 0
-RunGives sg v [] [] w = w ≡ v
-RunGives sg v [] (reply ∷ replies) w = ⊥
-RunGives sg v (step ∷ steps) [] w = ⊥
-RunGives {N = N} {E = E} {F = F} {S = S} sg v (step ∷ steps) (reply ∷ replies) w = (mid : Traced N E F S) ×
-    StepGives sg registry_of stack_set v step reply mid × RunGives sg mid steps replies w
+module _ {N E F S : Type 0} (sg : SubscriberGhosts (TraceStackValue N E F S)) where
+  -- a step as it is given, on the road that asks once each stack was asked anew
+  abbrev pub StepBy : Road → Traced N E F S → PlainStep → Reply → Traced N E F S → Type 0
+  StepBy Caching v step reply w = StepGives sg registry_of stack_set v step reply w
+  StepBy Asking v step reply w = (start : Traced N E F S) × AsksAnew sg v start × StepGives sg registry_of stack_set start step reply w
+
+  -- steps in order
+  abbrev pub RunGives : Road → Traced N E F S → List PlainStep → List Reply → Traced N E F S → Type 0
+  RunGives road v [] [] w = w ≡ v
+  RunGives road v [] (reply ∷ replies) w = ⊥
+  RunGives road v (step ∷ steps) [] w = ⊥
+  RunGives road v (step ∷ steps) (reply ∷ replies) w = (mid : Traced N E F S) × StepBy road v step reply mid × RunGives road mid steps replies w

@@ -5,6 +5,6 @@ pub returns-clause-runs : goal.returns-clause-runs
 returns-clause-runs g c = calls_make_runs _
 
 pub returns-clause-files : goal.returns-clause-files
-returns-clause-files g c = λ v steps replies w gives ready.
-    let runs = c.runs_follow.ensures v steps replies w ready gives in
-    (c.files_follow.ensures v steps replies w runs.0, runs.1)
+returns-clause-files g c = λ road v steps replies w gives ready.
+    let runs = c.runs_follow.ensures road v steps replies w ready gives in
+    (c.files_follow.ensures road v steps replies w runs.0, runs.1)

@@ -1,5 +1,5 @@
 use Rattle.std.proofs.Common.{None, Some, [], ◌∷◌, ap, subst, ◌∙◌}
-use Rattle.span_tracing_laws.specs.runs.Laws.{StackStays}
+use Rattle.span_tracing_laws.specs.runs.KeptStacks.{StackStays}
 use Rattle.span_tracing_outputs.specs.OutputSettings.{outputs_in, stack_set}
 use Rattle.span_tracing_laws.specs.runs.StepFollows.{registry_of}
 use Rattle.span_tracing_skeleton.specs.PlainData.{GlobalStep}

@@ -8,4 +8,4 @@ returns g c =
     c.each_sink_has_its_run.ensures
     (ghosts g.row.N g.row.E g.row.F g.row.S g.N.FormatFields g.N.FormatFields-dict g.E.FormatEvent g.E.FormatEvent-dict g.F.Filter
     g.F.Filter-dict g.S.LineSink g.S.LineSink-dict g.N.Destruct-dict g.E.Destruct-dict g.F.Destruct-dict g.S.Destruct-dict)
-    c.steps_follow.ensures
+    c.steps_follow.ensures c.setup_follows.ensures

@@ -11,7 +11,7 @@ returns-clause-gives c = rw (← c.message.ensures, ← c.message-2.ensures) (
 pub returns-clause-run : goal.returns-clause-run
 returns-clause-run c =
     rw (← c.message.ensures, ← c.message-2.ensures)
-    (c.calls_make_runs.ensures.files _ _ _ _ (
+    (c.calls_make_runs.ensures.files _ _ _ _ _ (
       c.event-reply.new.self,
       c.event-reply.ensures.gives,
       (c.event-last.new.self, c.event-last.ensures.gives, refl),

@@ -1,6 +1,7 @@
 use Rattle.std.proofs.Common.{arith, refl, take}
 use Rattle.span_tracing_outputs.specs.contracts.trace_stack.TraceStackSubscriber.TheImpl.{ghosts}
 use Rattle.span_tracing_skeleton.specs.PlainData.{plain_step, plain_steps}
+use Rattle.span_tracing.specs.Roads.{road_of}
 use Rattle.span_tracing.proofs.Runs.{run_more, take_step}
 use Rattle.span_tracing.proofs.steps.Trace+TraceStack+N+E+F+S.run_all.Goals as goal
 
@@ -13,8 +14,8 @@ loop-step-preserved g c =
       given = rw (c.push_reserved.ensures.items, more)
           (run_more (ghosts g.row.N g.row.E g.row.F g.row.S g.N.FormatFields g.N.FormatFields-dict g.E.FormatEvent g.E.FormatEvent-dict
           g.F.Filter g.F.Filter-dict g.S.LineSink g.S.LineSink-dict g.N.Destruct-dict g.E.Destruct-dict g.F.Destruct-dict g.S.Destruct-dict)
-          c.args.self.now (plain_steps (take c.loop-step.step-index c.args.steps.now)) c.loop-step.replies.items c.loop-step.self
-          (plain_step c.step-item.result) c.act.result c.act.new.self c.loop-step.invariant.given c.act.ensures);
+          (road_of c.args.asks) c.args.self.now (plain_steps (take c.loop-step.step-index c.args.steps.now)) c.loop-step.replies.items c.loop-step.self
+          (plain_step c.step-item.result) c.act_by.result c.act_by.new.self c.loop-step.invariant.given c.act_by.ensures);
     }
 
 pub loop-step-init : goal.loop-step-init

@@ -2,6 +2,7 @@ use Rattle.std.proofs.Common.{◌≡◌, ◌≤◌, length, take, vec_len, vec_c
 use Rattle.span_tracing_outputs.specs.contracts.trace_stack.TraceStackSubscriber.TheImpl.{ghosts}
 use Rattle.span_tracing_laws.specs.runs.Runs.{RunGives}
 use Rattle.span_tracing_skeleton.specs.PlainData.{plain_steps}
+use Rattle.span_tracing.specs.Roads.{road_of}
 use Rattle.span_tracing.proofs.steps.Trace+TraceStack+N+E+F+S.run_all.Given as goal
 
 abbrev pub invariant-loop-step : goal.invariant-loop-step
@@ -10,5 +11,5 @@ invariant-loop-step g l = record {
   count : vec_len l.replies ≡ l.step-index;
   given : RunGives (ghosts g.row.N g.row.E g.row.F g.row.S g.N.FormatFields g.N.FormatFields-dict g.E.FormatEvent g.E.FormatEvent-dict
       g.F.Filter g.F.Filter-dict g.S.LineSink g.S.LineSink-dict g.N.Destruct-dict g.E.Destruct-dict g.F.Destruct-dict g.S.Destruct-dict)
-      l.fn.self (plain_steps (take l.step-index l.steps)) l.replies.items l.self;
+      (road_of l.asks) l.fn.self (plain_steps (take l.step-index l.steps)) l.replies.items l.self;
 }
