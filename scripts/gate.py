@@ -95,11 +95,11 @@ def is_well_written(crate, crates):
     return not why
 
 
-def proof(crate, jobs):
-    """Proves a crate, and once more with one job where the system let the first check down."""
+def proof(crate):
+    """Proves a crate, and once more where the system let the first check down."""
     os.makedirs(f"{crate.folder}/out", exist_ok=True)
     try:
-        status = crate.prove_whole(jobs)
+        status = crate.prove_whole()
         why = "it was killed, most likely for memory" if status == -signal.SIGKILL else ""
     except (OSError, MemoryError) as fault:
         status, why = 1, repr(fault)
@@ -107,7 +107,7 @@ def proof(crate, jobs):
         print(f"the check broke off ({why}; {lanes.room_left()}): once more, a minute later", flush=True)
         time.sleep(60)
         shutil.rmtree(crate.kept, ignore_errors=True)
-        status = crate.prove_whole(1)
+        status = crate.prove_whole()
     return "proved" if not status else sys.exit(1)
 
 
@@ -155,7 +155,7 @@ class Gate:
         self.known = ledger.read(LEDGER)
         self.shares = ledger.shares({it.name: [label_of(it, file) for file in rt.edits_of(it)[0]] for it in crates})
         self.draw = ledger.drawn(seed(top)) if how.edits == "drawn" else None
-        self.spent, self.sums, self.open, self.refused, self.failed, self.passed, self.left = {}, {}, {}, set(), [], 0, []
+        self.spent, self.sums, self.open, self.refused, self.failed, self.passed = {}, {}, {}, set(), [], 0
         self.last_begin = time.time() + 60 * how.minutes if how.minutes else None
         self.seconds = json.loads(rtlib.text_of(SECONDS) or "{}")
         # the crates whose edits were looked at, so that the ledger's lines of all others stay
@@ -167,22 +167,26 @@ class Gate:
         """Returns all tasks but the edits' own, each under its crate's name and its part."""
         found = {}
         for it in self.crates:
+            below = [(each.name, "proof") for each in it.below()]
+            if rt.edits_of(it)[0]:
+                # before the proof: only where edits are to be judged over it does the proof keep its work
+                found[it.name, "plan"] = lanes.Task(below, 1, lambda it=it: self.planned(it))
+                below = [*below, (it.name, "plan")]
+            it.keeps = self.how.tests == "prove"
             lines = sum(rtlib.text_of(file).count("\n") for file in rtlib.files_of(it.folder) if file.endswith((".rt", ".antt")))
             after = [(it.name, "proof")]
             work = self.seconds.get(it.name, A_LINE * lines + A_PROGRAM * it.is_program)
-            found[it.name, "proof"] = lanes.Task([(below.name, "proof") for below in it.below()], work, lambda jobs, it=it: proof(it, jobs))
+            found[it.name, "proof"] = lanes.Task(below, work, lambda it=it: proof(it))
             if it.is_program:
-                found[it.name, "program"] = lanes.Task(after, 40, lambda jobs, it=it: program(it))
+                found[it.name, "program"] = lanes.Task(after, 40, lambda it=it: program(it))
             if it.name == cases.PROGRAM:
-                call = lambda jobs, it=it: cases.tried(cases.built(it), cases.sorted_out()[0])
+                call = lambda it=it: cases.tried(cases.built(it), cases.sorted_out()[0])
                 found[it.name, "cases"] = lanes.Task([(it.name, "program")], 20, call)
-                call = lambda jobs, it=it: real_files.tried(cases.built(it))
+                call = lambda it=it: real_files.tried(cases.built(it))
                 found[it.name, "real files"] = lanes.Task([(it.name, "program")], 20, call)
             if it.has_tests():
                 call = tests_proved if self.how.tests == "prove" else tests_run
-                found[it.name, "tests"] = lanes.Task(after, 50, lambda jobs, it=it, call=call: call(it))
-            if rt.edits_of(it)[0]:
-                found[it.name, "plan"] = lanes.Task(after, 1, lambda jobs, it=it: self.planned(it))
+                found[it.name, "tests"] = lanes.Task(after, 50, lambda it=it, call=call: call(it))
         self.open = {it.name: sum(key[0] == it.name for key in found) for it in self.crates}
         return found
 
@@ -191,12 +195,12 @@ class Gate:
         found = {}
         for it in self.crates:
             if it.has_tests():
-                found[it.name, "tests"] = lanes.Task([], 3, lambda jobs, it=it: tests_run(it))
+                found[it.name, "tests"] = lanes.Task([], 3, lambda it=it: tests_run(it))
             if it.is_program:
-                found[it.name, "program"] = lanes.Task([], 1, lambda jobs, it=it: program_unproved(it))
+                found[it.name, "program"] = lanes.Task([], 1, lambda it=it: program_unproved(it))
             if it.name == cases.PROGRAM:
-                found[it.name, "cases"] = lanes.Task([], 2, lambda jobs, it=it: quick.cases_tried(it, cases.sorted_out()[0]))
-                found[it.name, "real files"] = lanes.Task([], 2, lambda jobs, it=it: quick.scenes_tried(it))
+                found[it.name, "cases"] = lanes.Task([], 2, lambda it=it: quick.cases_tried(it, cases.sorted_out()[0]))
+                found[it.name, "real files"] = lanes.Task([], 2, lambda it=it: quick.scenes_tried(it))
         self.open = {it.name: sum(key[0] == it.name for key in found) for it in self.crates}
         return found
 
@@ -212,9 +216,13 @@ class Gate:
                 wanted.append(edits.Edit(crate, file))
         return sums, [[it.file for it in group] for group in edits.groups_of(crate, wanted)]
 
+    def is_late(self):
+        """Returns whether the time for edits is over."""
+        return bool(self.last_begin) and time.time() > self.last_begin
+
     def judged(self, crate, files):
         """Returns by the edit's name whether it is refused and what to say, and nothing where the time for edits is over."""
-        if self.last_begin and time.time() > self.last_begin:
+        if not crate.keeps or self.is_late():
             return {os.path.basename(file): None for file in files}
         return edits.judge(crate, crate.kept, [edits.Edit(crate, it) for it in files])
 
@@ -229,11 +237,11 @@ class Gate:
             self.sums.update({label: tuple(its) for label, its in sums.items()})
             self.seen.add(name)
             crate = self.by_name[name]
+            crate.keeps = crate.keeps or bool(groups) and not self.is_late()
             for at, files in enumerate(groups, 1):
-                call = lambda jobs, files=files: self.judged(crate, files)
-                follow[name, f"edits {at}"] = lanes.Task([], 25 * len(files), call)
+                call = lambda files=files: self.judged(crate, files)
+                follow[name, f"edits {at}"] = lanes.Task([(name, "proof")], 25 * len(files), call)
         elif part == "edits" and it.is_well:
-            self.left += [f"{name}/{edit}" for edit, came in it.gave.items() if not came]
             for edit, (is_refused, text) in sorted((edit, came) for edit, came in it.gave.items() if came):
                 print(f"gate: must-fail {name}/{edit}: {text}")
                 self.count(is_refused, f"{name}/{edit}")
@@ -352,12 +360,12 @@ def told(gate, minutes):
     for part, (cpu, wall, number) in gate.spent.items():
         print(f"gate: {part}: {number} tasks, {cpu / 60:.1f} minutes of processors, {wall / 60:.1f} minutes if one after another")
     judged = len(gate.refused) + sum("/" in it for it in gate.failed)
-    left = {it for it in gate.left if gate.known.get(it, ("",))[0] != gate.sums[it][0]}
-    rest = gate.sums.keys() - gate.refused - left - {*gate.failed}
+    rest = {it for it, its in gate.sums.items() if gate.known.get(it, ("",))[0] == its[0]} - gate.refused - {*gate.failed}
+    left = gate.sums.keys() - gate.refused - rest - {*gate.failed}
     older = sum(gate.known[it] != gate.sums[it] for it in rest)
     print(f"gate: {judged} edits judged; {len(rest)} rest on {LEDGER}, {older} of them over older contracts below")
     if left:
-        print(f"gate: NOT JUDGED for want of time: {len(left)} edits, which the next run judges: {'; '.join(sorted(left))}")
+        print(f"gate: NOT JUDGED: {len(left)} edits, which the next run judges: {'; '.join(sorted(left))}")
     print(f"gate: {sum(it[0] for it in gate.spent.values()) / 60:.1f} minutes of processors, {minutes:.1f} minutes")
     if gate.failed:
         print(f"gate: FAILED: {'; '.join(gate.failed)}")

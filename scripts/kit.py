@@ -49,12 +49,16 @@ rtlib.VERDICT = re.compile(rtlib.VERDICT.pattern.replace(r"statements=trusted\n"
 
 
 class Crate(rt.Crate):
-    """A crate that is proved once, into a folder `kept`, over whose copies its tests and edits are then judged."""
+    """A crate that is proved once. Where it `keeps`, that is into a folder `kept`, over whose copies its tests and edits are then judged. Else of a
+    library its statements alone are written, which the crates above load the faster: the toolchain does one or the other."""
 
     kept = None
-    # The crates above load what a library's check made, and not its statements alone: the toolchain doesn't keep work for those.
-    cuts_libraries = False
+    keeps = True
     made_from = None
+
+    @property
+    def cuts_libraries(self):
+        return not self.keeps
 
     def stamp(self):
         """Returns the sum of all that the crate is made from. The toolchain reckons a library's anew for each way by which it is reached, and there are
@@ -64,20 +68,33 @@ class Crate(rt.Crate):
         return self.made_from
 
     def prove(self, *commands):
-        return super().prove(*[[*it, "--incremental", self.kept] for it in commands])
+        return super().prove(*[[*it, "--incremental", self.kept] if self.keeps else it for it in commands])
 
-    def prove_whole(self, jobs):
+    def prove_whole(self):
         """Proves the crate from nothing and returns the status. Of a program, what LLVM makes of it is then linked."""
-        flags = ["--jobs", str(jobs)]
+        flags = ["--jobs", "1"]
         if not self.is_program:
             return self.build_rlib(flags, anew=True)
         to = f"out/{self.name}"
         words = [*self.words(flags, keeps=False), "--toolchain", f"{rt.KIT}/toolchain"]
-        status = self.prove(["build", *words, "--backend", "llvm", "-o", f"{to}.o"])
-        return status or self.link(f"{to}.o", to)
+        if self.keeps:
+            status = self.prove(["build", *words, "--backend", "llvm", "-o", f"{to}.o"])
+            return status or self.link(f"{to}.o", to)
+        status = self.prove(["check", *self.words(flags, keeps=False), "-o", "out/checked"])
+        return status or self.compile_by("llvm", self.words_proved(), to)
+
+    def words_proved(self):
+        """Returns the words of a command that compiles what was proved and written to `out/checked`."""
+        words = self.words(["--jobs", "1"], keeps=False)
+        for flag in ("--logic-built", "--jobs"):
+            at = words.index(flag)
+            words = [*words[:at], *words[at + 2 :]]
+        return [*words, "--toolchain", f"{rt.KIT}/toolchain", "--crate-checked", "out/checked"]
 
     def compile_again(self):
-        """Compiles the proved program by Rattle's own compiler, over what the proof kept, and returns the status."""
+        """Compiles the proved program by Rattle's own compiler and returns the status."""
+        if not self.keeps:
+            return self.compile_by("rattle", self.words_proved(), f"out/{self.name}")
         words = [*self.words(["--jobs", "1"], keeps=False), "--toolchain", f"{rt.KIT}/toolchain", "--incremental", self.kept]
         return self.compile_by("rattle", words, f"out/{self.name}")
 

@@ -13,17 +13,17 @@ import traceback
 import kit
 from kit import rtlib
 
-# What is run: `waits` names the tasks that have to end well before; `work` is a guess of its seconds; `call` gets how many jobs it may use.
+# What is run: `waits` names the tasks that have to end well before; `work` is a guess of its seconds; `call` does it.
 Task = collections.namedtuple("Task", "waits work call")
 # What came of it: whether all is well, what the call gave, what it printed, and its seconds of processors and of the clock.
 Ended = collections.namedtuple("Ended", "is_well gave said cpu wall")
 
 PR_SET_PDEATHSIG = 1
-# What a proof was seen to take at most, in bytes, with what the system needs beside it.
-MEMORY = 3_500_000_000
+# What a proof of a library was seen to take at most, in bytes, with what the system needs beside it. One of a program takes up to half as much more.
+MEMORY = 4_000_000_000
 
 
-def begun(task, jobs):
+def begun(task):
     """Starts the task in a process of its own and returns its number and the files that it writes."""
     said, gave = tempfile.TemporaryFile(), tempfile.TemporaryFile()
     sys.stdout.flush()
@@ -37,7 +37,7 @@ def begun(task, jobs):
     try:
         # its first call sets a signal's handler, which only the main thread may; what the task starts ends with it then
         rtlib.guarded()
-        result = task.call(jobs)
+        result = task.call()
         gave.write(json.dumps(result).encode())
         gave.flush()
         status = 0
@@ -72,13 +72,6 @@ def behind(tasks):
     return found
 
 
-def jobs_for(key, left, tasks, chain, lanes, is_alone):
-    """Returns how many processors a task gets: the longest chain decides when the run ends, so a proof in a chain that is longer than what all else
-    takes gets two, and so does one beside which nothing else can run."""
-    rest = sum(tasks[it].work for it in left)
-    return 2 if key[1] == "proof" and lanes > 1 and (is_alone or chain[key] * lanes > rest) else 1
-
-
 class Run:
     """Tasks that wait, tasks that run, and what came of those that ended."""
 
@@ -106,18 +99,16 @@ class Run:
             elif self.running and kit.rt.free() < MEMORY:
                 # what runs gives memory back when it ends
                 break
-            elif sum(it[1] for it in self.running.values()) < self.lanes:
-                is_alone = len(ready) + len(self.running) == 1
-                jobs = jobs_for(key, self.left, self.tasks, self.chain, self.lanes, is_alone)
+            elif len(self.running) < self.lanes:
                 self.left.remove(key)
-                child, said, gave = begun(self.tasks[key], jobs)
-                self.running[child] = key, jobs, said, gave, time.time()
+                child, said, gave = begun(self.tasks[key])
+                self.running[child] = key, said, gave, time.time()
 
     def wait(self):
         """Waits until a task ends."""
         child, status, used = os.wait4(-1, 0)
         if child in self.running:
-            key, _, said, gave, began = self.running.pop(child)
+            key, said, gave, began = self.running.pop(child)
             result = text_of(gave)
             result = json.loads(result) if result and not status else None
             self.end(key, Ended(result is not None, result, text_of(said), used.ru_utime + used.ru_stime, time.time() - began))

@@ -175,12 +175,14 @@ def tried(name, changes, crate, wanted):
 
 
 def ledger_tried():
-    """Returns whether an edit that the ledger has rests on it, one whose crate changed is judged again, and one that there is no time for is named."""
+    """Returns whether an edit that the ledger has rests on it, also where a program stands over a proof that keeps nothing; one whose crate changed is
+    judged again, and one that there is no time for is named."""
     with tempfile.TemporaryDirectory(prefix="try-gate-") as root:
         laid(root, {})
-        left = "NOT JUDGED for want of time: 1 edits" in gate(root, "low", "--minutes", "0.001")[1]
+        left = "NOT JUDGED: 1 edits" in gate(root, "low", "--minutes", "0.001")[1]
         gate(root, "low", "--edits", "all")
-        rests = "0 edits judged; 1 rest" in gate(root, "low", "--edits", "new")[1]
+        said = gate(root, "app", "--edits", "new")[1]
+        rests = "0 edits judged; 1 rest" in said and said.endswith(" 0 failed\n")
         with open(f"{root}/{LIB}", "a", encoding="utf-8") as it:
             it.write("\npub fn more() {}\n")
         again = "1 edits judged; 0 rest" in gate(root, "low", "--edits", "new")[1]
