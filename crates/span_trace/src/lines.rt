@@ -7,8 +7,9 @@ mod print;
 mod tests;
 
 pub use decode::{
-    CallsiteLine, FolderLine, FormatName, LaneLine, Line, NamedValue, OutputLine, RecordLine,
-    Setup, SinkLine, SpanEvent, StackLine, StepLine, SwapLine, TimeLine, decode_line,
+    CallsiteLine, FolderLine, FormatName, LaneLine, Line, NamedValue, OutputLine, QueueLine,
+    QueueStep, RecordLine, Setup, SinkLine, SpanEvent, StackLine, StepLine, SwapLine, TimeLine,
+    decode_line,
 };
 pub use fault::LineFault;
 pub use print::{PrintFault, write_files, write_replies};

@@ -10,7 +10,7 @@ use crate::run::run_steps;
 use crate::script::Script;
 use crate::setup::Stage;
 use crate::stack::{LogFolder, LogStack};
-use span_tracing::{EitherFolder, Reply, RollingSink, RoutedSinks, Trace};
+use span_tracing::{AnySink, EitherFolder, Reply, RoutedSinks, Trace};
 use std::alloc::Global;
 use std::io::{Read, Write};
 use std::rt::Files;
@@ -59,7 +59,7 @@ fn write_stack<'a, X: Files + AllocGlobal + Clone + Drop, W: Write>(
 /// Writes the files of an output's sinks, as far as they are in memory, and gives the names that are left for later outputs.
 fn write_output<'a, X: Files + AllocGlobal + Clone + Drop, W: Write>(
     alloc: Global,
-    routed: &RoutedSinks<RollingSink<LogFolder<X>>>,
+    routed: &RoutedSinks<AnySink<LogFolder<X>>>,
     names: &'a [Option<String>],
     output: &mut W,
 ) -> Result<&'a [Option<String>], PrintFault> {

@@ -1,7 +1,7 @@
 //! The outputs of a script, with their sinks.
 
 use crate::fault::Fault;
-use crate::lines::{FolderLine, OutputLine, SinkLine, StackLine};
+use crate::lines::{FolderLine, OutputLine, QueueLine, SinkLine, StackLine};
 use crate::output::settings_of;
 use span_tracing::{
     Builder, DiskFolder, EitherFolder, FileStack, MemoryFolder, OutputKey, OutputSpec, Refusal,
@@ -85,6 +85,7 @@ fn sinks_of<X: Files + AllocGlobal + Clone + Drop>(
             suffix,
             max_files,
             link,
+            queue,
         } = line;
         let builder = builder_of(rt.alloc(), rotation, prefix, suffix, max_files, link);
         let folder = match folder {
@@ -97,7 +98,11 @@ fn sinks_of<X: Files + AllocGlobal + Clone + Drop>(
                 EitherFolder::B(DiskFolder::new(rt.clone()?, path.as_str()))
             }
         };
-        sinks.push(SinkSpec::Direct(builder, folder))?;
+        let spec = match queue {
+            None => SinkSpec::Direct(builder, folder),
+            Some(QueueLine { limit, lossy }) => SinkSpec::Queued(builder, folder, limit, lossy),
+        };
+        sinks.push(spec)?;
     }
     Ok(sinks)
 }

@@ -2,7 +2,7 @@
 use Rattle.std.specs.Prelude.{ℕ, List, [], ◌∷◌, Bool, true, false, ◌&&◌, codes, is_some, Option, Some, None, if◌then◌else◌}
 use Rattle.std.specs.Str.{bytes_eq}
 use Rattle.span_trace_bench.specs.declared.bench.Bench.{Bench}
-use Rattle.span_trace_bench.specs.declared.bench.Bench.TheVariants.{DirectMemory, EventText, DirectFile, TwoOutputs, JsonMemory, Never, NeverSkipped}
+use Rattle.span_trace_bench.specs.declared.bench.Bench.TheVariants.{DirectMemory, EventText, DirectFile, TwoOutputs, JsonMemory, Queued, Never, NeverSkipped}
 use Rattle.span_trace_bench.specs.declared.bench.Bench.TheVariants.{Refused, Depth64, Open10k, Callsites1k, SpanCycle, SpanCycle10k}
 use Rattle.span_trace_bench.specs.declared.bench.Bench.TheVariants.{CloseOldest10k, Entered64, Open, FormatFull, FormatCompact, FormatPretty, FormatJson}
 
@@ -12,6 +12,7 @@ name_of EventText = codes "event_text"
 name_of DirectFile = codes "direct_file"
 name_of TwoOutputs = codes "two_outputs"
 name_of JsonMemory = codes "json_memory"
+name_of Queued = codes "queued"
 name_of Never = codes "never"
 name_of NeverSkipped = codes "never_skipped"
 name_of Refused = codes "refused"
@@ -29,7 +30,7 @@ name_of FormatPretty = codes "format_pretty"
 name_of FormatJson = codes "format_json"
 
 abbrev pub all_benches : List Bench
-all_benches = DirectMemory ∷ EventText ∷ DirectFile ∷ TwoOutputs ∷ JsonMemory ∷ Never ∷ NeverSkipped ∷ Refused ∷ Depth64 ∷ Open10k ∷ Callsites1k
+all_benches = DirectMemory ∷ EventText ∷ DirectFile ∷ TwoOutputs ∷ JsonMemory ∷ Queued ∷ Never ∷ NeverSkipped ∷ Refused ∷ Depth64 ∷ Open10k ∷ Callsites1k
     ∷ SpanCycle
     ∷ SpanCycle10k ∷ CloseOldest10k ∷ Entered64 ∷ Open ∷ FormatFull ∷ FormatCompact ∷ FormatPretty ∷ FormatJson ∷ []
 

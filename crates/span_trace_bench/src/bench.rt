@@ -22,6 +22,8 @@ pub enum Bench {
     TwoOutputs,
     /// Events in a span, in JSON, to a folder that only counts.
     JsonMemory,
+    /// Events in a span, to a queue, from which a worker's step writes 100 lines behind each 100 events.
+    Queued,
     /// Events of a callsite in which nobody is interested.
     Never,
     /// The same through `event!`, which makes no request there.
@@ -55,11 +57,12 @@ pub enum Bench {
 }
 
 /// The benches that need no folder of the system.
-pub(crate) const IN_MEMORY: [Bench; 19] = [
+pub(crate) const IN_MEMORY: [Bench; 20] = [
     Bench::DirectMemory,
     Bench::EventText,
     Bench::TwoOutputs,
     Bench::JsonMemory,
+    Bench::Queued,
     Bench::Never,
     Bench::NeverSkipped,
     Bench::Refused,
@@ -88,6 +91,7 @@ impl Bench {
             "direct_file" => Some(Bench::DirectFile),
             "two_outputs" => Some(Bench::TwoOutputs),
             "json_memory" => Some(Bench::JsonMemory),
+            "queued" => Some(Bench::Queued),
             "never" => Some(Bench::Never),
             "never_skipped" => Some(Bench::NeverSkipped),
             "refused" => Some(Bench::Refused),
@@ -117,6 +121,7 @@ impl Bench {
             Bench::DirectFile => "direct_file",
             Bench::TwoOutputs => "two_outputs",
             Bench::JsonMemory => "json_memory",
+            Bench::Queued => "queued",
             Bench::Never => "never",
             Bench::NeverSkipped => "never_skipped",
             Bench::Refused => "refused",
@@ -152,6 +157,11 @@ impl Bench {
             Bench::JsonMemory => LineFormat::Json(Json::new()),
             _ => LineFormat::Full,
         }
+    }
+
+    /// Whether a trace's lines wait in a queue.
+    pub(crate) fn is_queued(self) -> bool {
+        matches!(self, Bench::Queued)
     }
 
     /// How many outputs a trace has.
@@ -195,6 +205,7 @@ impl Bench {
             Bench::CloseOldest10k => stage.replace_oldest(count),
             Bench::Entered64 => stage.cycle(count),
             Bench::Open => stage.scatter(count),
+            Bench::Queued => stage.tell_queued(count),
             _ => stage.tell(EVENT, count),
         }
     }

@@ -52,7 +52,7 @@ fn time_over<R: Clock, D: Folder>(
     folders: Vec<D>,
     prefix: &str,
 ) -> Result<u128, Fault> {
-    let mut stage = Stage::new(alloc, bench.trace_format(), folders, prefix)?;
+    let mut stage = Stage::new(alloc, bench, folders, prefix)?;
     bench.prepare(&mut stage, MANY)?;
     let start = Instant::now(rt)?;
     bench.run(&mut stage, count)?;
@@ -101,7 +101,7 @@ fn write_time<R: Files + Clock + AllocGlobal + Clone + Drop, W: Write>(
 /// spans were made.
 fn write_sum<W: Write>(alloc: Global, bench: Bench, output: &mut W) -> Result<(), Fault> {
     let folders = counting_folders(alloc, bench)?;
-    let mut stage = Stage::new(alloc, bench.trace_format(), folders, "sums")?;
+    let mut stage = Stage::new(alloc, bench, folders, "sums")?;
     bench.prepare(&mut stage, FEW)?;
     bench.run(&mut stage, SMALL)?;
     let counted = stage.counted()?;

@@ -1,10 +1,11 @@
 //! The stack of a trace whose calls are timed.
 
+use crate::bench::Bench;
 use crate::fault::Fault;
 use crate::lines::fields_of;
 use span_tracing::{
-    Builder, FileStack, Folder, LineFormat, LineSettings, Moment, OutputKey, OutputSpec, Rotation,
-    Route, SinkSpec, open_stack,
+    Builder, FileStack, Folder, LineSettings, Moment, OutputKey, OutputSpec, Rotation, Route,
+    SinkSpec, open_stack,
 };
 use std::alloc::Global;
 use tracing_core::LevelFilter;
@@ -23,15 +24,21 @@ pub(crate) type LevelStack<D> = FileStack<LevelFilter, D>;
 fn output_of<D: Folder>(
     alloc: Global,
     key: u32,
-    shape: LineFormat,
+    bench: Bench,
     folder: D,
     prefix: &str,
 ) -> Result<OutputSpec<LevelFilter, D>, Fault> {
+    let shape = bench.trace_format();
     let builder = Builder::new(alloc)
         .rotation(Rotation::DAILY)
         .filename_prefix(prefix);
     let mut sinks = Vec::new(alloc);
-    sinks.push(SinkSpec::Direct(builder, folder))?;
+    let sink = if bench.is_queued() {
+        SinkSpec::Queued(builder, folder, 128_000, true)
+    } else {
+        SinkSpec::Direct(builder, folder)
+    };
+    sinks.push(sink)?;
     let lines = LineSettings {
         format: shape,
         fields: fields_of(shape),
@@ -43,17 +50,17 @@ fn output_of<D: Folder>(
     )
 }
 
-/// A stack with an output in this format for each folder, under a key of its own.
+/// A stack with an output of the bench for each folder, under a key of its own.
 pub(crate) fn stack_over<D: Folder>(
     alloc: Global,
-    shape: LineFormat,
+    bench: Bench,
     folders: Vec<D>,
     prefix: &str,
 ) -> Result<LevelStack<D>, Fault> {
     let mut outputs = Vec::new(alloc);
     let mut key: u32 = 0;
     for folder in folders {
-        outputs.push(output_of(alloc, key, shape, folder, prefix)?)?;
+        outputs.push(output_of(alloc, key, bench, folder, prefix)?)?;
         key = key.saturating_add(1);
     }
     open_stack(alloc, outputs, OPENED).map_err(|refused| Fault::Refused(refused.refusal))

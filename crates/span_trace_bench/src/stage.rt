@@ -1,11 +1,12 @@
 //! A trace whose calls are timed.
 
+use crate::bench::Bench;
 use crate::counting::CountingFolder;
 use crate::fault::Fault;
 use crate::lines::Counter;
 use crate::stack::{LevelStack, OPENED, stack_over};
 use span_tracing::value::{AnyValue, Lend, LentValue};
-use span_tracing::{Folder, LineFormat, Moment, Parent, Reply, Site, SpanName, Trace, event};
+use span_tracing::{Folder, Moment, Parent, Reply, Site, SpanName, Trace, event};
 use std::alloc::Global;
 use std::num::NonZeroU64;
 use tracing_core::{FieldSet, Identifier, Kind, Level, LevelFilter, Metadata};
@@ -65,6 +66,14 @@ fn made(reply: Reply) -> Result<SpanName, Fault> {
     }
 }
 
+fn worked(reply: Reply) -> Result<(), Fault> {
+    match reply {
+        Reply::Worked(_) => Ok(()),
+        Reply::Refused(refusal) => Err(Fault::Refused(refusal)),
+        _ => Err(Fault::OddReply),
+    }
+}
+
 fn closed(reply: Reply) -> Result<(), Fault> {
     match reply {
         Reply::Closed(true) => Ok(()),
@@ -97,15 +106,15 @@ fn trace_over<D: Folder>(
 }
 
 impl<D: Folder> Stage<D> {
-    /// A trace with one lane that reaches an output into each folder, in this format, all levels to INFO.
+    /// A trace with one lane that reaches an output of the bench into each folder, all levels to INFO.
     pub(crate) fn new(
         alloc: Global,
-        shape: LineFormat,
+        bench: Bench,
         folders: Vec<D>,
         prefix: &str,
     ) -> Result<Stage<D>, Fault> {
         let mut stage = Stage {
-            trace: trace_over(alloc, stack_over(alloc, shape, folders, prefix)?)?,
+            trace: trace_over(alloc, stack_over(alloc, bench, folders, prefix)?)?,
             spans: 0,
         };
         stage.register()?;
@@ -214,6 +223,16 @@ impl<D: Folder> Stage<D> {
             )?;
         }
         Ok(())
+    }
+
+    /// Tells of events, and lets a worker's step write 100 lines behind each 100, and the rest at the end.
+    pub(crate) fn tell_queued(&mut self, count: u64) -> Result<(), Fault> {
+        for _ in 0..count / 100 {
+            self.tell(EVENT, 100)?;
+            worked(self.trace.work(0, 100, OPENED))?;
+        }
+        self.tell(EVENT, count % 100)?;
+        worked(self.trace.work(0, 100, OPENED))
     }
 
     /// A callsite of events, for `event!`.

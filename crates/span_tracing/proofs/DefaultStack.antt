@@ -17,7 +17,7 @@ use Rattle.span_tracing_outputs.specs.files.OpenedStack.{OpensRouting, OpensStac
 use Rattle.span_tracing_outputs.specs.files.Settings.{Shown}
 use Rattle.span_tracing_outputs.specs.sinks.Routed.{Routed}
 use Rattle.span_tracing_outputs.specs.declared.files.output_spec.OutputSpec.{OutputSpec}
-use Rattle.span_tracing_outputs.specs.declared.sinks.sink.RollingSink.{RollingSink}
+use Rattle.span_tracing_outputs.specs.declared.sinks.any_sink.AnySink.{AnySink}
 use Rattle.tracing_core_fields.specs.declared.requests.subscriber.Subscriber.{Ghosts}
 use Rattle.tracing_core.specs.CacheRefresh.{Formed}
 use Rattle.tracing_core.specs.Commands.{living}
@@ -55,25 +55,30 @@ module _ {T : Type 0} where
     greatest = greatest;
   }
 
-  abbrev first_on : PlainThread → ℕ → Table T TraceCallsite → StateValue T
+  abbrev first_on : PlainThread → ℕ × ℕ → Table T TraceCallsite → StateValue T
   first_on thread count hub = record {
     hub = hub;
     threads = thread ∷ [];
-    outputs = count ∷ [];
+    outputs = count.0 ∷ [];
+    sinks = count.1 ∷ [];
     handles = Some (Some 0) ∷ [];
     guards = [];
     retired = None ∷ [];
   }
 
-  -- one lane and one stack, which has so many outputs
-  abbrev pub first_state : PlainThread → ℕ → T → Option ℕ → ℕ → StateValue T
+  -- one lane and one stack, which has so many outputs and sinks
+  abbrev pub first_state : PlainThread → ℕ × ℕ → T → Option ℕ → ℕ → StateValue T
   first_state thread count y top greatest = first_on thread count (first_hub (first_kept y top ∷ []) [] greatest)
 
   -- which is the global default
-  abbrev pub opened_state : PlainThread → ℕ → T → Option ℕ → ℕ → StateValue T
+  abbrev pub opened_state : PlainThread → ℕ × ℕ → T → Option ℕ → ℕ → StateValue T
   opened_state thread count y top greatest = with_global (first_state thread count y top greatest) (Some 0)
 
-module _ {T : Type 0} (s : Ghosts T) (outputs_in : T → ℕ) where
+module _ {T : Type 0} (s : Ghosts T) (outputs_in sinks_in : T → ℕ) where
+  -- how many outputs and sinks a stack has
+  abbrev counts : T → ℕ × ℕ
+  counts x = (outputs_in x, sinks_in x)
+
   abbrev OneTells : List (KeptSubscriber T) → Type 0
   OneTells fs = (y : T) × (top : Option ℕ) × (fs ≡ first_kept y top ∷ [])
 
@@ -106,15 +111,15 @@ module _ {T : Type 0} (s : Ghosts T) (outputs_in : T → ℕ) where
       )
 
   -- the first stack of a trace with one lane
-  first_added : (thread : PlainThread) (x : T) (handle : ℕ) (v : StateValue T) → AddGives s outputs_in (with_thread new_state thread) x
+  first_added : (thread : PlainThread) (x : T) (handle : ℕ) (v : StateValue T) → AddGives s outputs_in sinks_in (with_thread new_state thread) x
       (Ok handle) v →
-      (handle ≡ 0) × ((y : T) × (top : Option ℕ) × (v ≡ first_state thread (outputs_in x) y top v.hub.greatest))
+      (handle ≡ 0) × ((y : T) × (top : Option ℕ) × (v ≡ first_state thread (counts x) y top v.hub.greatest))
   first_added thread x handle v (number, (told, (z, moved, formed)), is) =
       let first = formed_first z v.hub formed in
-      (number, (first.0, first.1, is ∙ ap (first_on thread (outputs_in x)) first.2))
+      (number, (first.0, first.1, is ∙ ap (first_on thread (counts x)) first.2))
 
   module _ (registry_of : T → RegistryValue) (set_of : T → ℕ → Setting → T) where
-    set_first : (thread : PlainThread) (count : ℕ) (y : T) (top : Option ℕ) (greatest handle : ℕ) (reply : Reply) (w : StateValue T) →
+    set_first : (thread : PlainThread) (count : ℕ × ℕ) (y : T) (top : Option ℕ) (greatest handle : ℕ) (reply : Reply) (w : StateValue T) →
         handle ≡ 0 →
         StepGives s registry_of set_of (first_state thread count y top greatest) (GlobalStep handle) reply w →
         (reply ≡ Done) × (w ≡ opened_state thread count y top greatest)
@@ -123,7 +128,7 @@ module _ {T : Type 0} (s : Ghosts T) (outputs_in : T → ℕ) where
 
     -- Made the global default, it is reached, and there is no other.
     pub record Opens (thread : PlainThread) (x : T) (v : StateValue T) (handle : ℕ) (reply : Reply) (w : StateValue T) : Type 0 where
-      pub count : ℕ
+      pub count : ℕ × ℕ
       pub stack : T
       pub hint : Option ℕ
       pub greatest : ℕ
@@ -133,15 +138,15 @@ module _ {T : Type 0} (s : Ghosts T) (outputs_in : T → ℕ) where
       pub outputs : w.outputs ≡ outputs_in x ∷ []
 
     pub opens : (thread : PlainThread) (x : T) (handle : ℕ) (v : StateValue T) (reply : Reply) (w : StateValue T) →
-        AddGives s outputs_in (with_thread new_state thread) x (Ok handle) v → StepGives s registry_of set_of v
+        AddGives s outputs_in sinks_in (with_thread new_state thread) x (Ok handle) v → StepGives s registry_of set_of v
         (GlobalStep handle) reply w →
         Opens thread x v handle reply w
     opens thread x handle v reply w adds step =
         let first = first_added thread x handle v adds in
-        let set = set_first thread (outputs_in x) first.1.0 first.1.1 v.hub.greatest handle reply w first.0
+        let set = set_first thread (counts x) first.1.0 first.1.1 v.hub.greatest handle reply w first.0
         (subst (λ (u : StateValue T). StepGives s registry_of set_of u (GlobalStep handle) reply w) first.1.2 step) in
         record {
-          count = outputs_in x;
+          count = counts x;
           stack = first.1.0;
           hint = first.1.1;
           greatest = v.hub.greatest;
@@ -153,11 +158,11 @@ module _ {T : Type 0} (s : Ghosts T) (outputs_in : T → ℕ) where
 
     -- of a trace that was new before
     pub opened : (thread : PlainThread) (x : T) (handle : ℕ) (fresh before v : StateValue T) (reply : Reply) (w : StateValue T) →
-        fresh ≡ new_state → before ≡ with_thread fresh thread → AddGives s outputs_in before x (Ok handle) v →
+        fresh ≡ new_state → before ≡ with_thread fresh thread → AddGives s outputs_in sinks_in before x (Ok handle) v →
         StepGives s registry_of set_of v (GlobalStep handle) reply w → Opens thread x v handle reply w
     opened thread x handle fresh before v reply w new is adds step =
         opens thread x handle v reply w
-        (subst (λ (u : StateValue T). AddGives s outputs_in u x (Ok handle) v) (is ∙ ap (λ
+        (subst (λ (u : StateValue T). AddGives s outputs_in sinks_in u x (Ok handle) v) (is ∙ ap (λ
         (u : StateValue T). with_thread u thread) new) adds) step
 
     pub same_stack : (thread : PlainThread) (x : T) (v : StateValue T) (handle : ℕ) (reply : Reply) (w : StateValue T) →
@@ -168,7 +173,7 @@ module _ {T : Type 0} (s : Ghosts T) (outputs_in : T → ℕ) where
         ∙ sym (ap (λ (u : StateValue T). stack_in u 0) o.set)
 
 module _ {N E F S : Type 0} where
-  pub reaches_first : (thread : PlainThread) (count : ℕ) (w : Traced N E F S) (y : _) (top : Option ℕ) (greatest : ℕ) →
+  pub reaches_first : (thread : PlainThread) (count : ℕ × ℕ) (w : Traced N E F S) (y : _) (top : Option ℕ) (greatest : ℕ) →
       w ≡ opened_state thread count y top greatest → ReachesFirst w
   reaches_first thread count w y top greatest is = subst (λ (u : Traced N E F S). ReachesFirst u) (sym is)
       (record { given = refl; lanes = refl; default = refl; reached = refl; handles = refl; guards = refl })
@@ -183,10 +188,10 @@ module _ {F D : Type 0} (contents : D → Option Contents) (failed : D → ℕ) 
     (lanes : List PlainLane) where
   -- an opened stack has as many outputs as were asked for
   pub opened_count : (specs : List (OutputSpec F D))
-      (made : TraceStackValue Fields (Format LineFormat Timer) F (Routed (RollingSink D))) →
+      (made : TraceStackValue Fields (Format LineFormat Timer) F (Routed (AnySink D))) →
       OpensStack contents failed g h m lanes specs made → outputs_in made ≡ length specs
   opened_count specs made o =
-      ap (λ (x : TraceStackValue Fields (Format LineFormat Timer) F (Routed (RollingSink D))). length x.stack.rows) o.paired.1
+      ap (λ (x : TraceStackValue Fields (Format LineFormat Timer) F (Routed (AnySink D))). length x.stack.rows) o.paired.1
       ∙ length-map o.stack.rows cleared_row
       ∙ sym o.paired.0
       ∙ same_length (OpensRouting contents failed m) (map routing_of specs) made.sinks o.sinks

@@ -1,11 +1,12 @@
 -- Runs grow by a step.
 use Rattle.std.proofs.Common.{◌≡◌, Bool, true, false, ℕ, ◌+◌, ◌<◌, List, [], ◌∷◌, ◌++◌, length, take, map, get_or, refl, sym, ap, ◌∙◌, subst}
+use Rattle.std.proofs.Common.{IfOk, Result, Ok, Err}
 use Rattle.std.proofs.lemmas.List.{take_more, map-append}
 use Rattle.tracing_core_fields.specs.declared.requests.subscriber.Subscriber.{Ghosts as SubscriberGhosts}
 use Rattle.span_tracing_outputs.specs.OutputSettings.{stack_set}
 use Rattle.span_tracing_outputs.specs.TraceStacks.{TraceStackValue}
 use Rattle.span_tracing_outputs.specs.sinks.Routed.{Routed}
-use Rattle.span_tracing_outputs.specs.declared.sinks.sink.RollingSink.{RollingSink}
+use Rattle.span_tracing_outputs.specs.declared.sinks.any_sink.AnySink.{AnySink}
 use Rattle.span_tracing_laws.specs.runs.StepFollows.{Traced, registry_of}
 use Rattle.span_tracing_laws.specs.runs.Runs.{Road, RunGives, StepBy}
 use Rattle.span_tracing_skeleton.specs.PlainData.{PlainStep, plain_step, plain_steps}
@@ -33,7 +34,7 @@ run_joins sg road v (s ∷ ss) [] mid more later w goes last = absurd goes
 run_joins sg road v (s ∷ ss) (r ∷ rs) mid more later w (next, first, rest) last =
     (next, first, run_joins sg road next ss rs mid more later w rest last)
 
-pub calls_make_runs : {N E F D : Type 0} (sg : SubscriberGhosts (TraceStackValue N E F (Routed (RollingSink D)))) → CallsMakeRuns sg
+pub calls_make_runs : {N E F D : Type 0} (sg : SubscriberGhosts (TraceStackValue N E F (Routed (AnySink D)))) → CallsMakeRuns sg
 calls_make_runs sg = record {
   call = λ v step reply w gives. (w, gives, refl);
   joined = λ road v steps replies mid more later w before after. run_joins sg road v steps replies mid more later w before after;
@@ -60,3 +61,8 @@ pub by_keeping : {N E F S : Type 0} (sg : SubscriberGhosts (TraceStackValue N E 
 by_keeping sg asks v start step reply w is same gives =
     subst (λ b. StepBy sg (road_of b) v step reply w) (sym is)
     (subst (λ u. StepGives sg registry_of stack_set u step reply w) same gives)
+
+-- what follows for each value
+pub of_ok : {A E : Type 0} (r : Result A E) (P Q : A → Type 0) → IfOk r P → ((x : A) → P x → Q x) → IfOk r Q
+of_ok (Ok x) P Q is onward = onward x is
+of_ok (Err e) P Q is onward = tt

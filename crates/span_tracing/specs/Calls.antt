@@ -12,7 +12,7 @@ use Rattle.span_tracing_outputs.specs.OutputSettings.{stack_set}
 use Rattle.span_tracing_outputs.specs.TraceStacks.{TraceStackValue}
 use Rattle.span_tracing_outputs.specs.Turns.{Lines}
 use Rattle.span_tracing_outputs.specs.sinks.Routed.{Routed}
-use Rattle.span_tracing_outputs.specs.declared.sinks.sink.RollingSink.{RollingSink}
+use Rattle.span_tracing_outputs.specs.declared.sinks.any_sink.AnySink.{AnySink}
 use Rattle.span_tracing_skeleton.specs.PlainData.{PlainStep}
 use Rattle.span_tracing_skeleton.specs.declared.call.Reply.{Reply}
 use Rattle.span_tracing_steps.specs.Steps.{StepGives}
@@ -21,7 +21,7 @@ use Rattle.span_tracing_laws.specs.runs.StepFollows.{registry_of}
 use Rattle.span_tracing_laws.specs.runs.Runs.{Caching, Road, RunGives}
 use Rattle.span_tracing.specs.Ready.{RunsReady}
 
-module _ {N E F D : Type 0} (sg : SubscriberGhosts (TraceStackValue N E F (Routed (RollingSink D)))) where
+module _ {N E F D : Type 0} (sg : SubscriberGhosts (TraceStackValue N E F (Routed (AnySink D)))) where
   -- a call is a run of one step, and a run with one that begins where it ended is one run
   pub record CallsMakeRuns : Type 0 where
     pub call : (v : FileTrace N E F D) (step : PlainStep) (reply : Reply) (w : FileTrace N E F D) →

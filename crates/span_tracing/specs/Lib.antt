@@ -2,6 +2,7 @@ pub mod Setup
 pub mod SpanMoments
 pub mod OpenedTrace
 pub mod Ready
+pub mod Queues
 pub mod Roads
 pub mod OutputReaders
 pub mod Calls

@@ -13,7 +13,7 @@ use Rattle.span_tracing_outputs.specs.files.OpenedStack.{OpensStack}
 use Rattle.span_tracing_outputs.specs.files.Settings.{Shown}
 use Rattle.span_tracing_outputs.specs.sinks.Routed.{Routed}
 use Rattle.span_tracing_outputs.specs.declared.files.output_spec.OutputSpec.{OutputSpec}
-use Rattle.span_tracing_outputs.specs.declared.sinks.sink.RollingSink.{RollingSink}
+use Rattle.span_tracing_outputs.specs.declared.sinks.any_sink.AnySink.{AnySink}
 use Rattle.span_tracing_skeleton.specs.Looking.{reach}
 use Rattle.span_tracing_skeleton.specs.Skeleton.{Own, Unset}
 use Rattle.span_tracing_laws.specs.runs.KeptStacks.{StackStays}
@@ -22,10 +22,10 @@ use Rattle.span_tracing_laws.specs.runs.StepFollows.{Traced, skeleton_of}
 module _ {F D : Type 0} (contents : D → Option Contents) (failed : D → ℕ) (g : FilterGhosts F) (h : LayerGhosts Shown) (m : Moment) where
   -- the stack is there. Its outputs and sinks are those of a new stack of these outputs, whose files were opened at the moment, and
   -- its registry is that of the new stack, without a span
-  abbrev pub HasOutputs : List (OutputSpec F D) → Option (TraceStackValue Fields (Format LineFormat Timer) F (Routed (RollingSink D))) →
+  abbrev pub HasOutputs : List (OutputSpec F D) → Option (TraceStackValue Fields (Format LineFormat Timer) F (Routed (AnySink D))) →
       Type 0
   HasOutputs specs stack =
-      (made : TraceStackValue Fields (Format LineFormat Timer) F (Routed (RollingSink D))) ×
+      (made : TraceStackValue Fields (Format LineFormat Timer) F (Routed (AnySink D))) ×
       OpensStack contents failed g h m [] specs made × StackStays (Some made) stack
 
 -- the trace has one stack, one lane, one handle and no guard: the lane reaches the stack, by the global default

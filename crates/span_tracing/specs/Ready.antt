@@ -14,7 +14,7 @@ use Rattle.span_tracing_outputs.specs.OutputSettings.{stack_set}
 use Rattle.span_tracing_outputs.specs.TraceStacks.{TraceStackValue}
 use Rattle.span_tracing_outputs.specs.Turns.{Lines}
 use Rattle.span_tracing_outputs.specs.sinks.Routed.{Routed}
-use Rattle.span_tracing_outputs.specs.declared.sinks.sink.RollingSink.{RollingSink}
+use Rattle.span_tracing_outputs.specs.declared.sinks.any_sink.AnySink.{AnySink}
 use Rattle.span_tracing_skeleton.specs.PlainData.{PlainStep}
 use Rattle.span_tracing_skeleton.specs.declared.call.Reply.{Reply}
 use Rattle.span_tracing_laws.specs.runs.Files.{RunsToFiles}
@@ -40,6 +40,6 @@ pub record IsStep {N E F S : Type 0} (s : SubscriberGhosts (TraceStackValue N E 
 -- so does a run on each road, and its sinks and files are told of
 abbrev pub RunsReady : {N E F D : Type 0} → (D → Option Contents) → (D → ℕ) → Ghosts N →
     (E → Settings → PlainContext → PlainEvent → Option (List ℕ)) → FilterGhosts F → LayerGhosts (Lines N E) → Road →
-    Traced N E F (Routed (RollingSink D)) → List PlainStep → List Reply → Traced N E F (Routed (RollingSink D)) → Type 0
+    Traced N E F (Routed (AnySink D)) → List PlainStep → List Reply → Traced N E F (Routed (AnySink D)) → Type 0
 RunsReady contents failed n line_of g h road v steps replies w = TraceIsReady g h v →
     RunsToFiles contents failed n line_of g h road v steps replies w × TraceIsReady g h w

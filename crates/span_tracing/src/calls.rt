@@ -5,7 +5,7 @@ use event_formatter::{FormatEvent, Layer};
 use event_formatter_text::FormatFields;
 use span_registry_layers_layers::Filter;
 use span_tracing_laws::{files_follow, runs_follow};
-use span_tracing_outputs::{PendingLines, RollingSink, RoutedSinks, TraceStack};
+use span_tracing_outputs::{AnySink, PendingLines, RoutedSinks, TraceStack};
 use tracing_appender_rolling::Folder;
 use tracing_core_fields::Subscriber;
 
@@ -13,12 +13,12 @@ use tracing_core_fields::Subscriber;
 /// with one that begins where it ended is one run. Of each run of a ready trace `RunsReady` says which lines each sink took, and which
 /// bytes stand in its files.
 pub fn calls_make_runs<N: FormatFields + Drop, E: FormatEvent, F: Filter, D: Folder>()
-    ensures runs { CallsMakeRuns ⟦<TraceStack<N, E, F, RoutedSinks<RollingSink<D>>> as Subscriber>⟧ }
+    ensures runs { CallsMakeRuns ⟦<TraceStack<N, E, F, RoutedSinks<AnySink<D>>> as Subscriber>⟧ }
     // Of every run of a ready trace `RunsReady` says replies, the lines that each sink took, and the bytes in its files, however
     // its steps were called.
-    ensures files { EachRunIsReady ⟦<TraceStack<N, E, F, RoutedSinks<RollingSink<D>>> as Subscriber>⟧ D.contents D.failed
+    ensures files { EachRunIsReady ⟦<TraceStack<N, E, F, RoutedSinks<AnySink<D>>> as Subscriber>⟧ D.contents D.failed
         ⟦<N as FormatFields>⟧ E.line_of ⟦<F as Filter>⟧ ⟦<Layer<N, E, PendingLines> as span_registry_layers_layers::Layer>⟧ }
 {
-    runs_follow::<N, E, F, RoutedSinks<RollingSink<D>>>();
+    runs_follow::<N, E, F, RoutedSinks<AnySink<D>>>();
     files_follow::<N, E, F, D>();
 }

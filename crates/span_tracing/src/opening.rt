@@ -16,7 +16,7 @@ use event_formatter::{Fields, Format, LineFormat, Timer};
 use span_registry_layers_layers::Filter;
 use span_tracing_laws::{setup_follows, traces_stay_counted};
 use span_tracing_outputs::{
-    FileStack, Lines, OpenStackError, OutputSpec, RollingSink, RoutedSinks, open_stack,
+    AnySink, FileStack, Lines, OpenStackError, OutputSpec, RoutedSinks, open_stack,
 };
 use span_tracing_skeleton::{Refusal, Reply};
 use std::alloc::Global;
@@ -39,8 +39,8 @@ pub fn open_trace<F: Filter, D: Folder>(
     ensures moment { is_moment moment ≡ false → result ≡ Err (of_all Refusal.BadMoment) }
     // At a moment in range, no output, more than 64 outputs, or two with one key are refused; out of memory may be answered instead.
     ensures told { is_moment moment ≡ true → Answers (outputs_refusal outputs.items) result }
-    // Where each output's route is good, as `OutputSpec::new` makes it, a trace that is opened has good names, and the first bad name
-    // is refused ahead of what a folder refuses; out of memory may be answered instead. A folder's refusal is told only where the folder
+    // Where each output's route is good, as `OutputSpec::new` makes it, the queues of a trace that is opened have room and its files good
+    // names, and the first that hasn't is refused ahead of what a folder refuses; out of memory may be answered instead. A folder's refusal is told only where the folder
     // told a fault.
     ensures names { is_moment moment ≡ true → outputs_refusal outputs.items ≡ None → Every IsRouted outputs.items →
         NamesAnswer D.failed outputs.items result }
@@ -64,9 +64,9 @@ pub fn open_trace<F: Filter, D: Folder>(
     // The lane is the only one.
     ensures lane { IfOk result (λ trace. trace.threads ≡ record { name = None; number = 1 } ∷ []) }
 {
-    setup_follows::<Fields, Format<LineFormat, Timer>, F, RoutedSinks<RollingSink<D>>>();
-    traces_start_ready::<Fields, Format<LineFormat, Timer>, F, RoutedSinks<RollingSink<D>>>();
-    traces_stay_counted::<Fields, Format<LineFormat, Timer>, F, RoutedSinks<RollingSink<D>>>();
+    setup_follows::<Fields, Format<LineFormat, Timer>, F, RoutedSinks<AnySink<D>>>();
+    traces_start_ready::<Fields, Format<LineFormat, Timer>, F, RoutedSinks<AnySink<D>>>();
+    traces_stay_counted::<Fields, Format<LineFormat, Timer>, F, RoutedSinks<AnySink<D>>>();
     let stack = open_stack(alloc, outputs, moment)?;
     let mut trace = Trace::new(alloc);
     let Ok(_lane) = trace.thread(None, 1) else {

@@ -8,19 +8,28 @@ use crate::trace::Trace;
 use event_formatter::FormatEvent;
 use event_formatter_text::FormatFields;
 use span_registry_layers_layers::Filter;
-use span_tracing_outputs::{LineSink, RollingSink, RoutedSinks, TraceStack};
+use span_tracing_outputs::{AnySink, LineSink, RoutedSinks, TraceStack};
 use tracing_appender_rolling::Folder;
 
-// What a sink lost: lines that it dropped, and lines that its folder didn't take whole.
-fn lost_by<D: Folder>(sink: &RollingSink<D>) -> usize
+// What a sink lost: lines that it dropped, and lines that its folder didn't take whole; of a queued one also lines that came to its closed
+// queue, and those behind its mark.
+fn lost_by<D: Folder>(sink: &AnySink<D>) -> usize
     ensures { result ≡ lost_by sink.now }
 {
-    sink.dropped()
-        .saturating_add(sink.appender().faults().writes)
+    match sink {
+        AnySink::Direct(sink) => sink
+            .dropped()
+            .saturating_add(sink.appender().faults().writes),
+        AnySink::Queued(sink) => sink
+            .dropped_lines()
+            .saturating_add(sink.missed())
+            .saturating_add(sink.faults().writes)
+            .saturating_add(sink.queue().left() as usize),
+    }
 }
 
 // What sinks lost, beside what was lost before.
-fn lost_by_all<D: Folder>(before: usize, sinks: &[RollingSink<D>]) -> usize
+fn lost_by_all<D: Folder>(before: usize, sinks: &[AnySink<D>]) -> usize
     ensures { result ≡ lost_by_all before sinks.now }
 {
     let mut lost = before;
@@ -33,17 +42,18 @@ fn lost_by_all<D: Folder>(before: usize, sinks: &[RollingSink<D>]) -> usize
 impl<N: FormatFields + Drop, E: FormatEvent, F: Filter, S: LineSink> Trace<
     TraceStack<N, E, F, RoutedSinks<S>>,
 > {
-    /// The sink with this number of the output at a place of a stack, also of one that was released and isn't taken yet. A sink tells how
-    /// many lines it dropped; of a rolling file it has the folder, and what was lost to the folder's faults.
-    pub fn sink(&self, stack: usize, output: usize, number: usize) -> Option<&S>
-        ensures { option_copied result ≡ sink_at (stack_in self.now stack) output number }
+    /// The sink with this number, also of a stack that was released and isn't taken yet. Sinks are numbered from 0 through all stacks and
+    /// their outputs, in order. A sink tells how many lines found no memory at it; it has the folder of its files, what was lost to the
+    /// folder's faults, and its queue, where it has one.
+    pub fn sink(&self, number: usize) -> Option<&S>
+        ensures { option_copied result ≡ sink_at self.now number }
     {
-        match self.parts.stack(stack) {
-            Some(stack) => match stack.sinks().get(output) {
-                Some(routed) => routed.sinks().get(number),
+        match self.parts.sink_place(number) {
+            None => None,
+            Some(at) => match self.parts.stack(at.stack) {
+                Some(stack) => stack.sink(at.place),
                 None => None,
             },
-            None => None,
         }
     }
 
@@ -63,11 +73,12 @@ impl<N: FormatFields + Drop, E: FormatEvent, F: Filter, S: LineSink> Trace<
 }
 
 impl<N: FormatFields + Drop, E: FormatEvent, F: Filter, D: Folder> Trace<
-    TraceStack<N, E, F, RoutedSinks<RollingSink<D>>>,
+    TraceStack<N, E, F, RoutedSinks<AnySink<D>>>,
 > {
     /// How many texts and lines of the output at a place of a stack are missing in its files, at most `usize::MAX`: those that found no
-    /// memory before its sinks or at one, and lines that a folder didn't take whole. A line that is missing at two sinks counts twice. The stack
-    /// may have been released, as long as it isn't taken.
+    /// memory before its sinks or at one, lines that a folder didn't take whole, and lines that a queue dropped, that came to it once it was
+    /// closed, or that stood behind its mark then. Lines that wait aren't counted, nor held ones that were given up. A line that is missing at two sinks counts twice. The stack may have been released, as
+    /// long as it isn't taken.
     pub fn lost(&self, stack: usize, output: usize) -> Option<usize>
         ensures { result ≡ lost_at (stack_in self.now stack) output }
     {

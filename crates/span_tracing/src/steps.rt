@@ -18,7 +18,7 @@ use event_formatter_lines::FmtSpan;
 use event_formatter_text::FormatFields;
 use span_registry_layers_layers::Filter;
 use span_tracing_laws::{files_follow, runs_follow, steps_follow};
-use span_tracing_outputs::{LineSink, PendingLines, RollingSink, RoutedSinks, TraceStack};
+use span_tracing_outputs::{AnySink, LineSink, PendingLines, RoutedSinks, TraceStack};
 use span_tracing_skeleton::{
     DefaultCall, EnabledCall, FollowsCall, HasOutputs, HasRegistry, Parent, Reply, ResetCall,
     Setting, SettingCall, SpanCall, SpanMoments, SpanName, Step,
@@ -372,7 +372,7 @@ impl<N: FormatFields + Drop, E: FormatEvent, F: Filter, S: LineSink> Trace<Trace
 }
 
 impl<N: FormatFields + Drop, E: FormatEvent, F: Filter, D: Folder> Trace<
-    TraceStack<N, E, F, RoutedSinks<RollingSink<D>>>,
+    TraceStack<N, E, F, RoutedSinks<AnySink<D>>>,
 > {
     /// Steps in order, with a reply to each. A step that is refused for lack of memory does nothing, and the others run.
     ///
@@ -385,7 +385,7 @@ impl<N: FormatFields + Drop, E: FormatEvent, F: Filter, D: Folder> Trace<
     /// Out of memory for the replies, whose room is made first: then nothing was done.
     pub fn run(&mut self, steps: &[Step]) -> Result<Vec<Reply>, AllocError>
         // There is one reply for each step, and each step goes as it would alone, from where the one before left the trace.
-        ensures gives { IfOk result (λ replies. RunGives ⟦<TraceStack<N, E, F, RoutedSinks<RollingSink<D>>> as Subscriber>⟧ Caching self.old
+        ensures gives { IfOk result (λ replies. RunGives ⟦<TraceStack<N, E, F, RoutedSinks<AnySink<D>>> as Subscriber>⟧ Caching self.old
             (plain_steps steps.now) replies.items self.new) }
         // Where the trace is ready, replies, sinks and files are as `RunsToFiles` says, and the trace is ready afterwards.
         ensures run { IfOk result
@@ -395,7 +395,7 @@ impl<N: FormatFields + Drop, E: FormatEvent, F: Filter, D: Folder> Trace<
         // Where there is no memory for the replies, nothing was done.
         ensures err { OnErr result (self.new ≡ self.old) }
     {
-        runs_follow::<N, E, F, RoutedSinks<RollingSink<D>>>();
+        runs_follow::<N, E, F, RoutedSinks<AnySink<D>>>();
         files_follow::<N, E, F, D>();
         self.run_all(false, steps)
     }
@@ -410,7 +410,7 @@ impl<N: FormatFields + Drop, E: FormatEvent, F: Filter, D: Folder> Trace<
     pub fn run_asking(&mut self, steps: &[Step]) -> Result<Vec<Reply>, AllocError>
         // There is one reply for each step, and each step goes as it would alone once the trace asked anew, from where the
         // one before left it.
-        ensures gives { IfOk result (λ replies. RunGives ⟦<TraceStack<N, E, F, RoutedSinks<RollingSink<D>>> as Subscriber>⟧ Asking self.old
+        ensures gives { IfOk result (λ replies. RunGives ⟦<TraceStack<N, E, F, RoutedSinks<AnySink<D>>> as Subscriber>⟧ Asking self.old
             (plain_steps steps.now) replies.items self.new) }
         // Where the trace is ready, replies, sinks and files are those of the same machine, and the trace is ready afterwards.
         ensures run { IfOk result
@@ -420,7 +420,7 @@ impl<N: FormatFields + Drop, E: FormatEvent, F: Filter, D: Folder> Trace<
         // Where there is no memory for the replies, nothing was done.
         ensures err { OnErr result (self.new ≡ self.old) }
     {
-        runs_follow::<N, E, F, RoutedSinks<RollingSink<D>>>();
+        runs_follow::<N, E, F, RoutedSinks<AnySink<D>>>();
         files_follow::<N, E, F, D>();
         self.run_all(true, steps)
     }

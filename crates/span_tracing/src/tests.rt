@@ -1,4 +1,4 @@
-//! The tests of the crates below; one output, several stacks, folders that refuse, and random runs over stacks of four outputs beside slow
+//! The tests of the crates below; one output, several stacks, folders that refuse, queues, and random runs over stacks of four outputs beside slow
 //! models of them.
 
 mod common;
@@ -8,6 +8,7 @@ mod files;
 mod holders;
 mod model;
 mod outputs;
+mod queues;
 mod random;
 mod single;
 mod sinks;

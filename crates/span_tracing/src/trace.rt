@@ -17,7 +17,7 @@ use event_formatter_text::FormatFields;
 use span_registry_layers_layers::Filter;
 use span_tracing_laws::setup_follows;
 use span_tracing_outputs::{LineSink, PendingLines, TraceStack};
-use span_tracing_skeleton::{HasOutputs, HasRegistry, OutputPlace, Refusal, Reply};
+use span_tracing_skeleton::{HasOutputs, HasRegistry, HasSinks, OutputPlace, Refusal, Reply};
 use span_tracing_steps::TraceParts;
 use std::alloc::{AllocError, Global};
 use std::marker::Model;
@@ -32,7 +32,7 @@ use tracing_core_fields::{Identifier, Interest, Metadata, Subscriber};
 /// call, and can be read until it is taken.
 ///
 /// A contract sees a trace as what its hub keeps (stacks with who holds them, callsites with the interest in them, lanes and the global
-/// default), the lanes' threads, how many outputs each stack has, handles, guards, and the stacks that were released.
+/// default), the lanes' threads, how many outputs and sinks each stack has, handles, guards, and the stacks that were released.
 pub struct Trace<T: Subscriber> {
     pub(crate) parts: TraceParts<T>,
 }
@@ -135,17 +135,17 @@ impl<T: Subscriber> Trace<T> {
     }
 }
 
-impl<T: Subscriber + HasRegistry + HasOutputs> Trace<T> {
+impl<T: Subscriber + HasRegistry + HasOutputs + HasSinks> Trace<T> {
     /// Takes a stack under the next number, and answers the number of its handle. The stack is told of its handle, and asked of each
-    /// callsite and for its hint. Its outputs get the next numbers, in order. A ready trace stays ready where the stack is.
+    /// callsite and for its hint. Its outputs get the next numbers, in order, and so do their sinks. A ready trace stays ready where the stack is.
     ///
     /// # Errors
     ///
     /// Out of memory, which leaves the trace as it was and gives the stack back.
     pub fn add_stack(&mut self, stack: T) -> Result<usize, T>
         // The stack is told its handle, is asked of each callsite in order and for its hint, and is kept with what it said; its handle
-        // stands behind the others, and its outputs are counted. Or it comes back, and nothing changes.
-        ensures gives { AddGives ⟦<T as Subscriber>⟧ T.outputs_in self.old stack result self.new }
+        // stands behind the others, and its outputs and sinks are counted. Or it comes back, and nothing changes.
+        ensures gives { AddGives ⟦<T as Subscriber>⟧ T.outputs_in T.sinks_in self.old stack result self.new }
     {
         self.parts.add_stack(stack)
     }

@@ -11,5 +11,6 @@ pub mod StepFollows
 pub mod Runs
 pub mod Files
 pub mod SetupCalls
+pub mod DrivenSinks
 pub mod SkippedCallsites
 pub mod CountedTraces

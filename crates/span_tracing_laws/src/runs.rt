@@ -1,5 +1,7 @@
 //! Laws of steps and runs.
+ghost use Rattle.span_tracing_laws.specs.runs.DrivenSinks.{DrivesFollow};
 ghost use Rattle.span_tracing_laws.specs.runs.Files.{FilesFollow};
+ghost use Rattle.span_tracing_outputs.specs.sinks.SinkCalls.{CallsStack};
 ghost use Rattle.span_tracing_laws.specs.runs.SkippedCallsites.{SkipsNothing};
 ghost use Rattle.span_tracing_laws.specs.runs.Laws.{RunsFollow, SetupFollows, StepsFollow, TraceStaysCounted};
 
@@ -7,7 +9,7 @@ use event_formatter::{FormatEvent, Layer};
 use event_formatter_text::FormatFields;
 use span_registry_layers_layers::Filter;
 use span_tracing_outputs::{
-    LineSink, PendingLines, RollingSink, RoutedSinks, TraceStack, each_sink_has_its_run,
+    AnySink, LineSink, PendingLines, RoutedSinks, TraceStack, each_sink_has_its_run, kinds_stay,
     lines_stand_in_files, routed_sinks_take_theirs, runs_compose, trace_follows,
 };
 use span_tracing_skeleton::stays_counted;
@@ -62,19 +64,26 @@ pub fn runs_follow<N: FormatFields + Drop, E: FormatEvent, F: Filter, S: LineSin
     each_sink_has_its_run::<N, E, F, S>();
 }
 
-/// Which bytes stand in which file after a run over sinks of rolling files: where a sink of an output dropped no line and its
+/// Which bytes stand in which file after a run over sinks of rolling files: where a direct sink of an output dropped no line and its
 /// folder's contents are known, exactly those lines of the output's machine that the route sends to it stand in its files, whole and
 /// in order, where retention left them. Over any other folder each sink took just these lines, of
 /// which the laws of sinks say which looks, openings and writes they come to. A machine offers no line that found no memory
-/// before it came to the sink.
+/// before it came to the sink. The lines of a queued sink come to its queue, in order, and nothing is written.
 pub fn files_follow<N: FormatFields + Drop, E: FormatEvent, F: Filter, D: Folder>()
     ensures { FilesFollow D.contents D.failed ⟦<N as FormatFields>⟧ E.line_of ⟦<F as Filter>⟧
         ⟦<Layer<N, E, PendingLines> as span_registry_layers_layers::Layer>⟧ }
 {
-    each_sink_has_its_run::<N, E, F, RoutedSinks<RollingSink<D>>>();
-    routed_sinks_take_theirs::<RollingSink<D>>();
+    each_sink_has_its_run::<N, E, F, RoutedSinks<AnySink<D>>>();
+    routed_sinks_take_theirs::<AnySink<D>>();
     lines_stand_in_files::<D>();
+    kinds_stay::<D>();
 }
+
+/// A call on a sink's queue leaves a trace ready, and its outputs and skeleton as they were, so that runs go on from there.
+pub fn drives_follow<N: FormatFields + Drop, E: FormatEvent, F: Filter, D: Folder>()
+    ensures { DrivesFollow ⟦<N as FormatFields>⟧ E.line_of ⟦<F as Filter>⟧
+        ⟦<Layer<N, E, PendingLines> as span_registry_layers_layers::Layer>⟧ (CallsStack D.contents D.failed) }
+{}
 
 /// At a callsite of which it is kept that nobody is interested in it, no filter passes an event, and no span is made: whoever makes no
 /// request there misses no line. What he isn't told is whether the request would have been refused.

@@ -1,3 +1,4 @@
+pub mod CalledSinks
 pub mod Slotless
 pub mod KeptSpans
 pub mod EventLines

@@ -76,3 +76,14 @@ set_word {F = F} g x place setting valid =
     same : SameWord (λ m k. CommonInterest g m (filters_of x.stack.rows) k) (λ m k. CommonInterest g m (filters_of x.stack.rows) k)
         (common_hint g (Some 0) (filters_of x.stack.rows)) (common_hint g (Some 0) (filters_of x.stack.rows))
     same = record { onward = λ m k said. said; back = λ m k said. said; same_hint = refl }
+
+-- so does one whose outputs are the same
+pub same_word : {N E F S : Type 0} (g : FilterGhosts F) (x y : TraceStackValue N E F S) → y.stack ≡ x.stack → CacheIsValid g x.stack →
+    CacheIsValid g y.stack
+    × SameWord (λ m k. CommonInterest g m (filters_of x.stack.rows) k) (λ m k. CommonInterest g m (filters_of y.stack.rows) k)
+    (common_hint g (Some 0) (filters_of x.stack.rows)) (common_hint g (Some 0) (filters_of y.stack.rows))
+same_word {N = N} {E = E} {F = F} g x y is valid =
+    subst (λ (s : LinedStack N E F). CacheIsValid g s × SameWord
+    (λ m k. CommonInterest g m (filters_of x.stack.rows) k) (λ m k. CommonInterest g m (filters_of s.rows) k)
+    (common_hint g (Some 0) (filters_of x.stack.rows)) (common_hint g (Some 0) (filters_of s.rows)))
+    (sym is) (valid, record { onward = λ m k said. said; back = λ m k said. said; same_hint = refl })

@@ -1,3 +1,5 @@
+pub mod SinkCalls
+pub mod AnySinks
 pub mod Takes
 pub mod Runs
 pub mod OutputRuns

@@ -6,6 +6,7 @@ mod hand;
 mod has_filters;
 mod has_outputs;
 mod has_registry;
+mod has_sinks;
 mod laws;
 mod pending;
 mod sink;
@@ -21,8 +22,8 @@ pub use laws::{layer_follows, outputs_fold, stack_follows, trace_follows, trace_
 pub use pending::{PendingLine, PendingLines};
 pub use sink::LineSink;
 pub use sinks::{
-    RollingSink, RoutedSinks, UnroutedSinks, drops_are_counted, each_sink_has_its_run,
-    kept_lines_go_in_turn, lines_reach_files, lines_stand_in_files, routed_sinks_take_theirs,
-    runs_are_told, runs_compose,
+    AnySink, RollingSink, RoutedSinks, UnroutedSinks, drops_are_counted, each_sink_has_its_run,
+    kept_lines_go_in_turn, kinds_stay, lines_reach_files, lines_stand_in_files,
+    routed_sinks_take_theirs, runs_are_told, runs_compose,
 };
 pub use trace_stack::{TraceStack, UnpairedSinks};

@@ -1,11 +1,13 @@
 //! Sinks of a trace's outputs: rolling files that take lines.
 
+mod any_sink;
 mod laws;
 mod routed;
 mod sink;
 
+pub use any_sink::AnySink;
 pub use laws::{
-    drops_are_counted, each_sink_has_its_run, kept_lines_go_in_turn, lines_reach_files,
+    drops_are_counted, each_sink_has_its_run, kept_lines_go_in_turn, kinds_stay, lines_reach_files,
     lines_stand_in_files, routed_sinks_take_theirs, runs_are_told, runs_compose,
 };
 pub use routed::{RoutedSinks, UnroutedSinks};

@@ -6,7 +6,8 @@ use Rattle.span_tracing_skeleton.specs.declared.refusal.Refusal.TheVariants.{For
 use Rattle.span_tracing_skeleton.specs.declared.refusal.Refusal.TheVariants.{BadLinkName, BadName, FolderRefused, BadMoment, OutOfMemory}
 use Rattle.span_tracing_skeleton.specs.declared.refusal.Refusal.TheVariants.{BadRoute, JsonFieldsNeeded, UnknownLane, GlobalSet, Taken}
 use Rattle.span_tracing_skeleton.specs.declared.refusal.Refusal.TheVariants.{TooManyHandles, IdsSpent, WrongLane}
-use Rattle.span_tracing_skeleton.specs.declared.refusal.Refusal.TheVariants.{UnknownShelf}
+use Rattle.span_tracing_skeleton.specs.declared.refusal.Refusal.TheVariants.{UnknownShelf, ZeroLimit, NoRoom, NothingHeld}
+use Rattle.span_tracing_skeleton.specs.declared.refusal.Refusal.TheVariants.{Closed, NotQueued, UnknownSink, MarkSent}
 
 abbrev pub refusal_number : Refusal → ℕ
 refusal_number UnknownCallsite = 1
@@ -17,11 +18,17 @@ refusal_number ForeignParent = 5
 refusal_number NoOutput = 6
 refusal_number TooManyFilters = 7
 refusal_number EqualKeys = 8
+refusal_number ZeroLimit = 9
 refusal_number BadLinkName = 10
 refusal_number BadName = 11
 refusal_number FolderRefused = 12
 refusal_number BadMoment = 13
 refusal_number OutOfMemory = 14
+refusal_number NoRoom = 16
+refusal_number NothingHeld = 17
+refusal_number Closed = 18
+refusal_number NotQueued = 19
+refusal_number UnknownSink = 20
 refusal_number BadRoute = 21
 refusal_number JsonFieldsNeeded = 22
 refusal_number UnknownLane = 23
@@ -31,3 +38,4 @@ refusal_number TooManyHandles = 26
 refusal_number IdsSpent = 27
 refusal_number WrongLane = 28
 refusal_number UnknownShelf = 29
+refusal_number MarkSent = 30

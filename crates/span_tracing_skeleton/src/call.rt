@@ -146,11 +146,13 @@ pub enum Reply {
     Handle(usize),
     /// The number of the guard.
     Guard(usize),
+    /// How many lines a step of a worker took from its queue.
+    Worked(usize),
     Refused(Refusal),
 }
 
 impl Reply {
-    ghost use Rattle.span_tracing_skeleton.specs.Replies.{as_closed, as_done, as_guard, as_handle, as_span};
+    ghost use Rattle.span_tracing_skeleton.specs.Replies.{as_closed, as_done, as_guard, as_handle, as_span, as_worked};
 
     /// The answer to a call whose reply says no more than that it was done.
     ///
@@ -222,6 +224,21 @@ impl Reply {
         match self {
             Reply::Refused(refusal) => Err(CallError::Refused(refusal)),
             Reply::Guard(guard) => Ok(Some(guard)),
+            _ => Ok(None),
+        }
+    }
+
+    /// How many lines a step of a worker took, and none where the reply tells of none.
+    ///
+    /// # Errors
+    ///
+    /// The refusal, where the call was refused.
+    pub fn worked(self) -> Result<Option<usize>, CallError>
+        ensures { result ≡ as_worked self }
+    {
+        match self {
+            Reply::Refused(refusal) => Err(CallError::Refused(refusal)),
+            Reply::Worked(lines) => Ok(Some(lines)),
             _ => Ok(None),
         }
     }

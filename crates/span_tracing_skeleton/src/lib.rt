@@ -9,7 +9,9 @@ mod call_error;
 mod has_filters;
 mod has_outputs;
 mod has_registry;
+mod has_sinks;
 mod laws;
+mod queue_call;
 mod refusal;
 mod setting;
 
@@ -21,6 +23,8 @@ pub use call_error::CallError;
 pub use has_filters::HasFilters;
 pub use has_outputs::HasOutputs;
 pub use has_registry::HasRegistry;
+pub use has_sinks::HasSinks;
 pub use laws::stays_counted;
+pub use queue_call::QueueCall;
 pub use refusal::Refusal;
 pub use setting::{OutputPlace, Setting, SettingCall, SpanMoments};

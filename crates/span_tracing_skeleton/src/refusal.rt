@@ -23,6 +23,8 @@ pub enum Refusal {
     TooManyFilters,
     #[error("two outputs have the same key")]
     EqualKeys,
+    #[error("a queue's limit is zero")]
+    ZeroLimit,
     #[error("a link has the name of a log file")]
     BadLinkName,
     #[error("a part of a file name has a slash or a NUL, or the name is `.` or `..`")]
@@ -33,6 +35,16 @@ pub enum Refusal {
     BadMoment,
     #[error("out of memory")]
     OutOfMemory,
+    #[error("the queue has no room")]
+    NoRoom,
+    #[error("no line is held beside the queue")]
+    NothingHeld,
+    #[error("the queue is closed")]
+    Closed,
+    #[error("the sink has no queue")]
+    NotQueued,
+    #[error("no such sink, or it was taken with its stack")]
+    UnknownSink,
     #[error("the route names a sink that the output lacks, or one twice, or its `or_else` begins without a bound")]
     BadRoute,
     #[error("a line of JSON needs fields in JSON")]
@@ -51,6 +63,8 @@ pub enum Refusal {
     WrongLane,
     #[error("no such place on the shelf of filters")]
     UnknownShelf,
+    #[error("the queue's mark was put before")]
+    MarkSent,
 }
 
 impl Refusal {
@@ -69,11 +83,17 @@ impl Refusal {
             Refusal::NoOutput => 6,
             Refusal::TooManyFilters => 7,
             Refusal::EqualKeys => 8,
+            Refusal::ZeroLimit => 9,
             Refusal::BadLinkName => 10,
             Refusal::BadName => 11,
             Refusal::FolderRefused => 12,
             Refusal::BadMoment => 13,
             Refusal::OutOfMemory => 14,
+            Refusal::NoRoom => 16,
+            Refusal::NothingHeld => 17,
+            Refusal::Closed => 18,
+            Refusal::NotQueued => 19,
+            Refusal::UnknownSink => 20,
             Refusal::BadRoute => 21,
             Refusal::JsonFieldsNeeded => 22,
             Refusal::UnknownLane => 23,
@@ -83,6 +103,7 @@ impl Refusal {
             Refusal::IdsSpent => 27,
             Refusal::WrongLane => 28,
             Refusal::UnknownShelf => 29,
+            Refusal::MarkSent => 30,
         }
     }
 }

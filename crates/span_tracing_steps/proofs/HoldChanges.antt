@@ -1,22 +1,19 @@
 -- Who holds stacks: what the hub makes of a hold more or less, where nothing refuses it.
-use Rattle.std.proofs.Common.{◌≡◌, inl, ℕ, zero, suc, Bool, true, false, not, ◌==◌, nat_le, List, [], ◌∷◌, ◌++◌, length, map, Option}
-use Rattle.std.proofs.Common.{Some, None, Result, Ok, Err, is_some, refl, sym, ap, ◌∙◌, subst, arith}
-use Rattle.std.specs.Prelude.{if◌then◌else◌, slice_get, slice_set}
+use Rattle.std.proofs.Common.{◌≡◌, ℕ, zero, suc, Bool, true, false, not, ◌==◌, nat_le, List, [], ◌∷◌, length, map, Option}
+use Rattle.std.proofs.Common.{Some, None, Ok, Err, is_some, refl, sym, ap, ◌∙◌, arith}
+use Rattle.std.specs.Prelude.{if◌then◌else◌, slice_get}
 use Rattle.std.specs.Option.{option_map}
 use Rattle.std.proofs.lemmas.Bool.Decides.{nat_tests}
 use Rattle.std.proofs.lemmas.Bool.{not-false}
 use Rattle.tracing_core_fields.specs.declared.requests.subscriber.Subscriber.{Ghosts}
 use Rattle.tracing_core_fields.specs.requests.Lists.{Every}
 use Rattle.tracing_core_fields.specs.requests.Refusals.{or_refused, or_same}
-use Rattle.tracing_core.specs.Commands.{reached}
 use Rattle.tracing_core.specs.Defaults as hub
 use Rattle.tracing_core.specs.Defaults.{default_refusal, given_up, global_refusal, globally, guard_of, holding, locally, reset_gives, reset_gives_at}
 use Rattle.tracing_core.specs.Defaults.{running}
-use Rattle.tracing_core.specs.Handles.{given_back, hold_refusal, most, refusal_at, subscriber_with}
-use Rattle.tracing_core.specs.Table.{Table, chosen, effective, own_setting}
+use Rattle.tracing_core.specs.Handles.{hold_refusal, most, refusal_at, subscriber_with}
+use Rattle.tracing_core.specs.Table.{Table}
 use Rattle.tracing_core.specs.TableRows.{KeptSubscriber}
-use Rattle.tracing_core.specs.declared.guard.DefaultGuard.{DefaultGuard}
-use Rattle.tracing_core.specs.declared.guard.WrongLane.{WrongLane}
 use Rattle.tracing_core.specs.declared.hub.parts.Lane.{Lane}
 use Rattle.tracing_core.specs.declared.hub.parts.Lane.TheVariants.{Ended, Running}
 use Rattle.tracing_core.specs.declared.hub.parts.LaneDefault.{LaneDefault}
@@ -28,25 +25,20 @@ use Rattle.tracing_core.specs.declared.refusal.SetDefaultError.TheVariants as ow
 use Rattle.tracing_core.specs.declared.refusal.SetGlobalDefaultError.TheVariants.{AlreadySet, Handle}
 use Rattle.span_registry_layers_store.specs.Registries.{RegistryValue}
 use Rattle.span_tracing_skeleton.specs.Looking.{inner, is_held, stack_behind, was_set}
-use Rattle.span_tracing_skeleton.specs.Looking as skeleton
-use Rattle.span_tracing_skeleton.specs.Order.{chosen_refusal, further_refusal, refusal_of}
-use Rattle.span_tracing_skeleton.specs.PlainData.{CloneHandleStep, DefaultStep, GlobalStep, ReleaseStep, ResetStep}
+use Rattle.span_tracing_skeleton.specs.Order.{further_refusal, refusal_of}
+use Rattle.span_tracing_skeleton.specs.PlainData.{GlobalStep}
 use Rattle.span_tracing_skeleton.specs.Refusing.{first, full_refusal, guard_refusal_by, handle_refusal, handle_refusal_by, lane_refusal, when}
 use Rattle.span_tracing_skeleton.specs.Refusing as refusing
-use Rattle.span_tracing_skeleton.specs.Skeleton.{GuardValue, HeldStack}
-use Rattle.span_tracing_skeleton.specs.declared.call.DefaultCall.{DefaultCall}
-use Rattle.span_tracing_skeleton.specs.declared.call.ResetCall.{ResetCall}
-use Rattle.span_tracing_skeleton.specs.declared.call.Reply.{Reply}
 use Rattle.span_tracing_skeleton.specs.declared.call.Reply.TheVariants as replies
 use Rattle.span_tracing_skeleton.specs.declared.setting.Setting.{Setting}
 use Rattle.span_tracing_skeleton.specs.declared.refusal.Refusal.{Refusal}
-use Rattle.span_tracing_skeleton.specs.declared.refusal.Refusal.TheVariants.{GlobalSet, ReleasedStack, TooManyHandles, UnknownLane, WrongLane as wrong}
+use Rattle.span_tracing_skeleton.specs.declared.refusal.Refusal.TheVariants.{GlobalSet, ReleasedStack, TooManyHandles, UnknownLane}
 use Rattle.span_tracing_steps.specs.FullHandles.{full_by}
-use Rattle.span_tracing_steps.specs.States.{StateValue, behind, held_stack, lane_default, plain_default, plain_guard, skeleton_of}
-use Rattle.span_tracing_steps.specs.Steps.{StepGives, asked_for, put_away, restored, with_default, with_global, with_handle, without_handle}
+use Rattle.span_tracing_steps.specs.States.{StateValue, behind, held_stack, lane_default, plain_default, skeleton_of}
+use Rattle.span_tracing_steps.specs.Steps.{StepGives}
 use Rattle.span_tracing_steps.specs.TraceInvariant.{Runs}
 use Rattle.span_tracing_steps.proofs.Lanes.{length_map}
-use Rattle.span_tracing_steps.proofs.Stacks.{get_map, held_is, held_with}
+use Rattle.span_tracing_steps.proofs.Stacks.{get_map, held_with}
 use Rattle.span_tracing_steps.proofs.UnrefusedRequests.{given}
 
 first_none : (a b : Option Refusal) → first a b ≡ None → a ≡ None

@@ -1,25 +1,22 @@
 -- What is kept of the interest in callsites stays right of each stack.
-use Rattle.std.proofs.Common.{◌≡◌, ◌<◌, ◌⊎◌, inl, inr, ℕ, zero, suc, Bool, true, false, ◌==◌, ◌+◌, List, [], ◌∷◌, Option, Some, None, Result}
+use Rattle.std.proofs.Common.{◌≡◌, ◌<◌, ◌⊎◌, inl, inr, ℕ, Bool, true, false, ◌==◌, ◌+◌, List, [], ◌∷◌, Option, Some, None, Result}
 use Rattle.std.proofs.Common.{Ok, Err, refl, sym, ap, ◌∙◌, subst, arith}
 use Rattle.std.specs.Option.{option_map}
-use Rattle.std.specs.Prelude.{if◌then◌else◌, slice_get}
+use Rattle.std.specs.Prelude.{if◌then◌else◌, slice_get, slice_set}
 use Rattle.std.proofs.lemmas.Bool.Decides.{nat_tests}
 use Rattle.tracing_core_fields.specs.PlainMetadata.{PlainMetadata}
 use Rattle.tracing_core_fields.specs.requests.Calls.{Call, ReplyTo, Asked, SpanMade, Recorded, FollowsRecorded, EventDispatched, Entered}
 use Rattle.tracing_core_fields.specs.requests.Calls.{Exited, Cloned, CloseTried}
 use Rattle.tracing_core_fields.specs.requests.Interests.{PlainInterest}
-use Rattle.tracing_core_fields.specs.declared.requests.refusal.RequestError.{RequestError}
 use Rattle.tracing_core_fields.specs.declared.requests.subscriber.Subscriber.{Ghosts}
-use Rattle.tracing_core.specs.CachePreservation.{PreservesCaches, PreservesLivingCaches, StaysRight}
-use Rattle.tracing_core.specs.Defaults.{given_up, globally, holding, locally}
+use Rattle.tracing_core.specs.CachePreservation.{PreservesLivingCaches, StaysRight}
+use Rattle.tracing_core.specs.Defaults.{globally, holding, locally}
 use Rattle.tracing_core.specs.Handles.{given_back, subscriber_with}
 use Rattle.tracing_core.specs.HubInvariant.{IsSound as IsSoundHub}
 use Rattle.tracing_core.specs.Table.{Table, chosen, own_setting}
 use Rattle.tracing_core.specs.TableRows.{KeptSubscriber}
 use Rattle.tracing_core.specs.ValidCaches.{HasValidCache}
 use Rattle.tracing_core.specs.declared.guard.DefaultGuard.{DefaultGuard}
-use Rattle.tracing_core.specs.declared.hub.parts.Lane.TheVariants.{Running}
-use Rattle.tracing_core.specs.declared.refusal.RegisterError.TheVariants as errors
 use Rattle.tracing_core.proofs.CachePreservation.{Alike, add_keeps, added_kept, call_keeps, given_back_keeps, held_keeps, itself_living}
 use Rattle.tracing_core.proofs.CachePreservation.{living_from, moved_keeps_by, register_keeps}
 use Rattle.tracing_core.proofs.NumbersNeverReused.{below_next}
@@ -36,14 +33,16 @@ use Rattle.span_tracing_skeleton.specs.declared.call.Reply.{Reply}
 use Rattle.span_tracing_skeleton.specs.declared.call.SpanCall.{SpanCall}
 use Rattle.span_tracing_skeleton.specs.declared.call.SpanName.{SpanName}
 use Rattle.span_tracing_skeleton.specs.Consistency.{StaysConsistent}
+use Rattle.span_tracing_skeleton.specs.declared.queue_call.QueueCall.{QueueCall}
 use Rattle.span_tracing_skeleton.specs.declared.setting.OutputPlace.{OutputPlace}
 use Rattle.span_tracing_skeleton.specs.declared.setting.Setting.{Setting}
 use Rattle.span_tracing_skeleton.specs.declared.refusal.Refusal.{Refusal}
 use Rattle.span_tracing_steps.specs.InterestPreservation.{CacheStaysValid}
 use Rattle.span_tracing_steps.specs.Interests.{KeepsWord}
 use Rattle.span_tracing_steps.specs.Setup.{AddGives, RegisterGives, RegistersAs}
+use Rattle.span_tracing_steps.specs.SinkCalls.{DriveGives, PlaceCalled, StackCalled}
 use Rattle.span_tracing_steps.specs.StackRequests.{own_values, place_at, request_of}
-use Rattle.span_tracing_steps.specs.States.{StateValue, behind, new_state, skeleton_of}
+use Rattle.span_tracing_steps.specs.States.{StateValue, behind, skeleton_of}
 use Rattle.span_tracing_steps.specs.Steps.{CallGoes, CloneGoes, CloseGoes, EnterGoes, EventGoes, ExitGoes, FollowsGoes, QuestionGoes, RecordGoes}
 use Rattle.span_tracing_steps.specs.Steps.{SpanGoes, StepGives, StepGoes, StepUnless, ValuesGo, asked_for, restored, with_default, with_handle}
 use Rattle.span_tracing_steps.specs.Steps.{becoming, set_in, with_setting, without_handle}
@@ -265,8 +264,9 @@ module _ {T : Type 0} (g : Ghosts T) where
   register_word v m r w word (inl (callsite, own, goes)) = kept v w word (as_registered v callsite r w goes)
   register_word v m r w word (inr none) = kept v w word (same_state v w none.1)
 
-  module _ (outputs_in : T → ℕ) where
-    added_by : (v : StateValue T) (x : T) (handle : ℕ) (w : StateValue T) (goes : AddGives g outputs_in v x (Ok handle) w) → KeepsWord g v →
+  module _ (outputs_in sinks_in : T → ℕ) where
+    added_by : (v : StateValue T) (x : T) (handle : ℕ) (w : StateValue T) (goes : AddGives g outputs_in sinks_in v x (Ok handle) w) →
+        KeepsWord g v →
         g.steady x → (n : ℕ) (f : KeptSubscriber T) → subscriber_with n w.hub.subscribers ≡ Some f → (b : Bool) → (n == v.hub.next) ≡ b →
         HasValidCache g ghosts w.hub f
     added_by v x handle w goes word steady n f there true own =
@@ -282,18 +282,54 @@ module _ {T : Type 0} (g : Ghosts T) where
         let below : n < v.hub.next = grind (arith, nat_tests) in
         right_by v.hub w.hub n f (subscriber_with n v.hub.subscribers) word.sound keeps below there refl (word.valid n)
 
-    added : (v : StateValue T) (x : T) (handle : ℕ) (w : StateValue T) → KeepsWord g v → g.steady x → AddGives g outputs_in v x (Ok handle) w →
-        KeepsWord g w
+    added : (v : StateValue T) (x : T) (handle : ℕ) (w : StateValue T) → KeepsWord g v → g.steady x →
+        AddGives g outputs_in sinks_in v x (Ok handle) w → KeepsWord g w
     added v x handle w word steady goes = record {
       sound = (add_keeps g ghosts v.hub w.hub x (Ok (Some v.hub.next)) goes.1).sound word.sound;
       valid = λ n f there. added_by v x handle w goes word steady n f there (n == v.hub.next) refl;
     }
 
-  pub cache_stays_valid : (registry_of : T → RegistryValue) (outputs_in : T → ℕ) (set : T → ℕ → Setting → T) →
-      ((x : T) (place : ℕ) (setting : Setting) → StaysConsistent g x (set x place setting)) → CacheStaysValid g registry_of outputs_in set
-  cache_stays_valid registry_of outputs_in set word = record {
+  -- a call on a sink's queue
+  module _ (drives : T → ℕ → QueueCall → Reply → T → Type 0)
+      (word : (x : T) (number : ℕ) (call : QueueCall) (reply : Reply) (y : T) → drives x number call reply y → StaysConsistent g x y) where
+    becoming_keeps : (v : StateValue T) (stack : ℕ) (e : KeptSubscriber T) (y : T) → subscriber_with stack v.hub.subscribers ≡ Some e →
+        StaysConsistent g e.subscriber y → Keeps v.hub (becoming stack y v).hub
+    becoming_keeps v stack e y there stays =
+        let u = (becoming stack y v).hub in
+        record {
+          caches = living_from g ghosts v.hub u (moved_keeps_by g ghosts stack e y v.hub u there stays refl (alike v.hub u refl refl refl));
+          next = refl;
+        }
+
+    called_keeps : (v : StateValue T) (at : OutputPlace) (call : QueueCall) (o : Option (KeptSubscriber T)) (waits : Option T) (reply : Reply)
+        (w : StateValue T) → subscriber_with at.stack v.hub.subscribers ≡ o →
+        StackCalled drives v at call (option_map (λ (e : KeptSubscriber T). e.subscriber) o) waits reply w → Keeps v.hub w.hub
+    called_keeps v at call None None reply w there goes = same_state v w goes.1
+    called_keeps v at call None (Some x) reply w there goes =
+        moved v (record v { retired = slice_set v.retired at.stack (Some goes.0) }) w goes.2 (same_hub v.hub)
+    called_keeps v at call (Some e) waits reply w there goes =
+        moved v (becoming at.stack goes.0 v) w goes.2
+        (becoming_keeps v at.stack e goes.0 there (word e.subscriber at.place call reply goes.0 goes.1))
+
+    place_keeps : (v : StateValue T) (o : Option OutputPlace) (call : QueueCall) (reply : Reply) (w : StateValue T) →
+        PlaceCalled drives v o call reply w → Keeps v.hub w.hub
+    place_keeps v None call reply w goes = same_state v w goes.1
+    place_keeps v (Some at) call reply w goes =
+        called_keeps v at call (subscriber_with at.stack v.hub.subscribers) (inner (slice_get v.retired at.stack)) reply w refl goes
+
+    driven : (v : StateValue T) (sink : ℕ) (call : QueueCall) (reply : Reply) (w : StateValue T) → KeepsWord g v →
+        DriveGives drives v sink call reply w → KeepsWord g w
+    driven v sink call reply w word_kept goes = kept v w word_kept (place_keeps v (output_in v.sinks 0 sink) call reply w goes)
+
+  pub cache_stays_valid : (registry_of : T → RegistryValue) (outputs_in sinks_in : T → ℕ) (set : T → ℕ → Setting → T)
+      (drives : T → ℕ → QueueCall → Reply → T → Type 0) →
+      ((x : T) (place : ℕ) (setting : Setting) → StaysConsistent g x (set x place setting)) →
+      ((x : T) (number : ℕ) (call : QueueCall) (reply : Reply) (y : T) → drives x number call reply y → StaysConsistent g x y) →
+      CacheStaysValid g registry_of outputs_in sinks_in set drives
+  cache_stays_valid registry_of outputs_in sinks_in set drives word drives_word = record {
     new = record { sound = record { numbers = omega arith; apart = tt; sites = tt }; valid = λ n f there. absurd (cc) };
-    added = added outputs_in;
+    added = added outputs_in sinks_in;
     registered = register_word;
     stepped = stepped registry_of set word;
+    driven = driven drives drives_word;
   }

@@ -1,5 +1,5 @@
 -- Lanes and their threads.
-use Rattle.std.proofs.Common.{◌≡◌, ℕ, suc, List, [], ◌∷◌, length, map, refl, sym, ap, ◌∙◌}
+use Rattle.std.proofs.Common.{◌≡◌, suc, List, [], ◌∷◌, length, map, refl, sym, ap, ◌∙◌}
 use Rattle.span_registry_layers_store.specs.Registries.{RegistryValue}
 use Rattle.span_tracing_steps.specs.States.{lane_default, skeleton_of, value_in}
 use Rattle.span_tracing_steps.specs.TraceInvariant.{IsSound}

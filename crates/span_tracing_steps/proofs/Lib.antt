@@ -8,3 +8,4 @@ pub mod UnrefusedRequests
 pub mod HoldChanges
 pub mod Registration
 pub mod InterestPreservation
+pub mod SinkCalls

@@ -4,7 +4,7 @@ use Rattle.tracing_core_fields.specs.PlainMetadata.{PlainMetadata}
 use Rattle.tracing_core_fields.specs.declared.requests.subscriber.Subscriber.{Ghosts}
 use Rattle.tracing_core_fields.specs.requests.Interests.{PlainInterest}
 use Rattle.tracing_core_fields.specs.requests.Lists.{Every}
-use Rattle.std.specs.Prelude.{ℕ, List, length}
+use Rattle.std.specs.Prelude.{List, length}
 use Rattle.tracing_core.specs.CachePreservation.{PreservesCaches}
 use Rattle.tracing_core.specs.Commands.{RegisterGives as HubRegisters, RegisterGivesAt, callsite_with, kept_alike}
 use Rattle.tracing_core.specs.Table.{Table}

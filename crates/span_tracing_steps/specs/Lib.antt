@@ -11,3 +11,4 @@ pub mod RequestTarget
 pub mod FullHandles
 pub mod FilterSwaps
 pub mod Asking
+pub mod SinkCalls

@@ -1,5 +1,5 @@
 -- What setup calls leave of a trace.
-use Rattle.std.specs.Prelude.{◌≡◌, ◌⊎◌, ℕ, [], ◌∷◌, ◌++◌, length, false, if◌then◌else◌, nat_lt, slice_set, Option, Some, None, Result, Ok, Err}
+use Rattle.std.specs.Prelude.{◌≡◌, ◌⊎◌, ℕ, [], ◌∷◌, ◌++◌, length, false, if◌then◌else◌, nat_lt, slice_set, Some, None, Result, Ok, Err}
 use Rattle.tracing_core_fields.specs.PlainMetadata.{PlainMetadata}
 use Rattle.tracing_core_fields.specs.requests.Interests.{PlainInterest}
 use Rattle.tracing_core_fields.specs.declared.requests.subscriber.Subscriber.{Ghosts}
@@ -42,15 +42,16 @@ module _ {T : Type 0} (g : Ghosts T) where
   RegisterGives v m r w = ((callsite : TraceCallsite) × (own_metadata callsite ≡ m) × RegistersAs callsite v r w) ⊎
       ((r ≡ Err OutOfMemory) × (w ≡ v))
 
-module _ {T : Type 0} (g : Ghosts T) (outputs_in : T → ℕ) where
+module _ {T : Type 0} (g : Ghosts T) (outputs_in sinks_in : T → ℕ) where
   -- A stack is added as the hub does it, under the next number: it is told its handle, asked of each callsite and for its hint, and kept
-  -- with what it said. Its handle is the last one, and its outputs are counted. Or it comes back, and nothing changes.
+  -- with what it said. Its handle is the last one, and its outputs and sinks are counted. Or it comes back, and nothing changes.
   abbrev pub AddGives : StateValue T → T → Result ℕ T → StateValue T → Type 0
   AddGives v x (Ok handle) w =
       (handle ≡ length v.handles) × HubAdds g ghosts v.hub x (Ok (Some v.hub.next)) w.hub ×
       (w ≡ record v {
         hub = w.hub;
         outputs = v.outputs ++ outputs_in x ∷ [];
+        sinks = v.sinks ++ sinks_in x ∷ [];
         handles = v.handles ++ Some (Some v.hub.next) ∷ [];
         retired = v.retired ++ None ∷ [];
       })

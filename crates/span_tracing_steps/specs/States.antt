@@ -1,5 +1,5 @@
 -- What a trace is without where it lies in memory: what its hub keeps, and its lists of numbers.
-use Rattle.std.specs.Prelude.{ℕ, List, [], ◌∷◌, map, Option, Some, None, string_bytes, slice_get}
+use Rattle.std.specs.Prelude.{ℕ, List, [], map, Option, Some, None, string_bytes, slice_get}
 use Rattle.std.specs.Option.{option_map}
 use Rattle.tracing_core_fields.specs.PlainMetadata.{PlainMetadata}
 use Rattle.tracing_core.specs.Handles.{subscriber_with}
@@ -28,12 +28,13 @@ abbrev pub plain_thread : Thread → PlainThread
 plain_thread thread = record { name = option_map string_bytes thread.name; number = thread.thread_id }
 
 -- what the hub keeps: stacks by their numbers with who holds them, callsites with the interest in them, lanes with their own defaults, and
--- the global default; the lanes' threads; by number how many outputs each stack has; by number what each handle leads to, and each guard, where it isn't spent; and by number each
+-- the global default; the lanes' threads; by number how many outputs and how many sinks each stack has; by number what each handle leads to, and each guard, where it isn't spent; and by number each
 -- stack that was released and waits to be taken
 pub record StateValue (T : Type 0) : Type 0 where
   pub hub : Table T TraceCallsite
   pub threads : List PlainThread
   pub outputs : List ℕ
+  pub sinks : List ℕ
   pub handles : List (Option (Option ℕ))
   pub guards : List (Option DefaultGuard)
   pub retired : List (Option T)
@@ -43,6 +44,7 @@ value_in p = record {
   hub = p.hub;
   threads = map plain_thread p.threads.items;
   outputs = p.outputs.items;
+  sinks = p.sinks.items;
   handles = p.handles.items;
   guards = p.guards.items;
   retired = p.retired.items;
@@ -50,7 +52,7 @@ value_in p = record {
 
 -- no callsite, no lane, no stack
 abbrev pub new_state : {T : Type 0} → StateValue T
-new_state = record { hub = fresh; threads = []; outputs = []; handles = []; guards = []; retired = [] }
+new_state = record { hub = fresh; threads = []; outputs = []; sinks = []; handles = []; guards = []; retired = [] }
 
 abbrev pub callsites_of : List (KeptCallsite TraceCallsite) → List PlainMetadata
 callsites_of rows = map (λ (row : KeptCallsite TraceCallsite). own_metadata row.callsite) rows

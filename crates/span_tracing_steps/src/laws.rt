@@ -1,11 +1,11 @@
 //! Laws of what a trace keeps.
 ghost use Rattle.span_tracing_steps.specs.InterestPreservation.{CacheStaysValid};
 
-use span_tracing_skeleton::{HasOutputs, HasRegistry};
+use span_tracing_skeleton::{HasOutputs, HasRegistry, HasSinks};
 use tracing_core_fields::Subscriber;
 
 /// What is kept of the interest in each callsite is right of each stack: of a new trace, and after each consistent stack and each callsite
-/// that is added, and after each step.
-pub fn cache_stays_valid<T: Subscriber + HasRegistry + HasOutputs>()
-    ensures { CacheStaysValid ⟦<T as Subscriber>⟧ T.registry_of T.outputs_in T.set }
+/// that is added, and after each step and each call on a sink's queue.
+pub fn cache_stays_valid<T: Subscriber + HasRegistry + HasOutputs + HasSinks>()
+    ensures { CacheStaysValid ⟦<T as Subscriber>⟧ T.registry_of T.outputs_in T.sinks_in T.set T.drives }
 {}

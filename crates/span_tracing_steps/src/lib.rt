@@ -13,6 +13,7 @@ mod parts;
 mod requests;
 mod settings;
 mod setup;
+mod sinks;
 mod spans;
 
 pub use action::{RecordRequest, Request};

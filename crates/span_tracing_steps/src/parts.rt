@@ -17,12 +17,13 @@ pub struct Thread {
     pub thread_id: u64,
 }
 
-/// The lanes' threads; by number how many outputs each stack has; the hub with callsites, stacks and defaults; handles and guards by number, where they aren't spent; and stacks that
+/// The lanes' threads; by number how many outputs and how many sinks each stack has; the hub with callsites, stacks and defaults; handles and guards by number, where they aren't spent; and stacks that
 /// were released and wait to be taken, each in the place of its number.
 pub struct TraceParts<T> {
     pub(crate) alloc: Global,
     pub(crate) threads: Vec<Thread>,
     pub(crate) outputs: Vec<usize>,
+    pub(crate) sinks: Vec<usize>,
     pub(crate) hub: Hub<T, TraceCallsite>,
     pub(crate) handles: Vec<Option<Dispatch>>,
     pub(crate) guards: Vec<Option<DefaultGuard>>,
@@ -36,6 +37,7 @@ impl<T: Drop> Drop for TraceParts<T> {
             alloc: _alloc,
             threads: _threads,
             outputs: _outputs,
+            sinks: _sinks,
             hub: _hub,
             handles: _handles,
             guards: _guards,

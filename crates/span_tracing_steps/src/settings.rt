@@ -12,8 +12,8 @@ use span_tracing_skeleton::{
 };
 use tracing_core_fields::{Subscriber, weak_of};
 
-// Where the output with a number stands: stacks in order have so many outputs.
-fn place_in(counts: &[usize], output: usize) -> Option<OutputPlace>
+/// Where the output with a number stands: stacks in order have so many outputs. So it is with sinks.
+pub(crate) fn place_in(counts: &[usize], output: usize) -> Option<OutputPlace>
     ensures { result ≡ output_in counts.now 0 output }
 {
     let mut place = output;

@@ -8,7 +8,7 @@ ghost use Rattle.span_tracing_steps.specs.States.{new_state, value_in};
 
 use crate::callsite::TraceCallsite;
 use crate::parts::{Thread, TraceParts};
-use span_tracing_skeleton::{HasOutputs, HasRegistry, Refusal};
+use span_tracing_skeleton::{HasOutputs, HasRegistry, HasSinks, Refusal};
 use std::alloc::{AllocError, Global};
 use tracing_core::{AddError, Hub, RegisterError};
 use tracing_core_fields::{Identifier, Interest, Metadata, Subscriber};
@@ -26,6 +26,7 @@ impl<T: Subscriber> TraceParts<T> {
             alloc,
             threads: Vec::new(alloc),
             outputs: Vec::new(alloc),
+            sinks: Vec::new(alloc),
             hub: Hub::new(alloc),
             handles: Vec::new(alloc),
             guards: Vec::new(alloc),
@@ -101,10 +102,11 @@ impl<T: Subscriber> TraceParts<T> {
     }
 }
 
-impl<T: Subscriber + HasRegistry + HasOutputs> TraceParts<T> {
+impl<T: Subscriber + HasRegistry + HasOutputs + HasSinks> TraceParts<T> {
     ghost use Rattle.span_tracing_steps.specs.TraceInvariant.{IsSound};
 
-    /// Takes a stack, asks it of each callsite, and answers the number of its handle. Its outputs have the next numbers, in order.
+    /// Takes a stack, asks it of each callsite, and answers the number of its handle. Its outputs have the next numbers, in order, and
+    /// so have its sinks.
     ///
     /// # Errors
     ///
@@ -114,7 +116,7 @@ impl<T: Subscriber + HasRegistry + HasOutputs> TraceParts<T> {
         ensures sound { IsSound self.new }
         // The stack is told its handle, is asked of each callsite in order and for its hint, and is kept with what it said; where
         // there is no memory, it comes back, and nothing changes.
-        ensures gives { AddGives ⟦<T as Subscriber>⟧ T.outputs_in (value_in self.old) stack result (value_in self.new) }
+        ensures gives { AddGives ⟦<T as Subscriber>⟧ T.outputs_in T.sinks_in (value_in self.old) stack result (value_in self.new) }
     {
         if self.handles.reserve(1).is_err() {
             return Err(stack);
@@ -122,15 +124,20 @@ impl<T: Subscriber + HasRegistry + HasOutputs> TraceParts<T> {
         if self.outputs.reserve(1).is_err() {
             return Err(stack);
         }
+        if self.sinks.reserve(1).is_err() {
+            return Err(stack);
+        }
         if self.retired.reserve(1).is_err() {
             return Err(stack);
         }
-        let count = stack.output_count();
+        let outputs = stack.output_count();
+        let sinks = stack.sink_count();
         match self.hub.add(stack) {
             Ok(handle) => {
                 let number = self.handles.len();
                 self.handles.push_reserved(Some(handle));
-                self.outputs.push_reserved(count);
+                self.outputs.push_reserved(outputs);
+                self.sinks.push_reserved(sinks);
                 self.retired.push_reserved(None);
                 Ok(number)
             }

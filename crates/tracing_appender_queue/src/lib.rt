@@ -3,10 +3,15 @@
 
 mod buffers;
 mod laws;
+mod queued;
 mod state;
 mod worker;
 
 pub use laws::queue_is_its_lists;
+pub use queued::{
+    AdmitError, Fate, QueuedSink, Settlement, Waiting, drops_are_exact, queue_goes_by_calls,
+    settles_compose, work_may_be_cut, work_may_change_places,
+};
 pub use state::{MarkError, Offered, QueueState, Settled, Taken, ZeroLimit};
 pub use worker::{
     Batched, Written, batch, batches_may_be_cut, first_lines_are_taken, steps_have_one_end,

@@ -19,15 +19,15 @@ use span_registry_layers::Filter;
 use span_tracing::laws::{leveled_outputs_are_honest, traces_start_ready};
 use span_tracing::value::{AnyValue, LentValue};
 use span_tracing::{
-    Builder, Fields, FileStack, Folder, Format, LineFormat, LineSettings, Lines, MemoryFolder,
-    Moment, OutputKey, OutputSpec, Parent, Refusal, Reply, RollingSink, Rotation, Route,
+    AnySink, Builder, Fields, FileStack, Folder, Format, LineFormat, LineSettings, Lines,
+    MemoryFolder, Moment, OutputKey, OutputSpec, Parent, Refusal, Reply, Rotation, Route,
     RoutedSinks, SinkSpec, Timer, Trace, calls_make_runs, open_stack, setup_follows,
 };
 use std::alloc::Global;
 use tracing_core::{Identifier, LevelFilter, Subscriber};
 
 /// What the output's lines go to.
-type Sinks = RoutedSinks<RollingSink<MemoryFolder>>;
+type Sinks = RoutedSinks<AnySink<MemoryFolder>>;
 
 /// A trace over a folder in memory, under a level.
 pub type MemoryTrace = Trace<FileStack<LevelFilter, MemoryFolder>>;

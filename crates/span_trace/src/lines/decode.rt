@@ -20,12 +20,12 @@ use members::Members;
 use serde_json::Value as Json;
 pub use setup::{CallsiteLine, LaneLine, Setup};
 use setup::{callsite_line, lane_line, shelf_line};
-pub use sink::{FolderLine, SinkLine};
+pub use sink::{FolderLine, QueueLine, SinkLine};
 use stack::stack_line;
 pub use stack::{FormatName, OutputLine, SpanEvent, StackLine, TimeLine};
 use std::alloc::Global;
 use step::step_line;
-pub use step::{NamedValue, RecordLine, StepLine, SwapLine};
+pub use step::{NamedValue, QueueStep, RecordLine, StepLine, SwapLine};
 
 /// A line of the input.
 #[derive(Drop)]

@@ -89,6 +89,10 @@ fn reply_value(alloc: Global, reply: Reply) -> Result<Json, AllocError> {
             let number = guard as u64;
             json!(in alloc; {"guard": number})
         }
+        Reply::Worked(lines) => {
+            let number = lines as u64;
+            json!(in alloc; {"worked": number})
+        }
         Reply::Refused(refusal) => {
             let number = refusal.number();
             json!(in alloc; {"refused": number})

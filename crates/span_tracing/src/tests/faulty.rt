@@ -81,7 +81,7 @@ fn has_files(
     sink: usize,
     wanted: &[(&str, &str)],
 ) -> Result<(), Fail> {
-    let sink = trace.sink(0, 0, sink).ok_or("a sink")?;
+    let sink = trace.sink(sink).ok_or("a sink")?;
     let files = sink.appender().folder().inner().files()?;
     assert_eq!(rt; files.len(), wanted.len());
     for (file, (name, text)) in files.iter().zip(wanted) {
@@ -107,7 +107,7 @@ fn a_failed_switch_is_tried_once_a_day(rt: HostRuntime) -> Result<(), Fail> {
         ("app.2025-02-19", "app: c\n"),
     ];
     has_files(&rt, &trace, 0, &wanted)?;
-    let faults = trace.sink(0, 0, 0).ok_or("a sink")?.appender().faults();
+    let faults = trace.sink(0).ok_or("a sink")?.appender().faults();
     assert_eq!(rt;
         (faults.switches, faults.retentions, faults.writes),
         (1, 0, 0)
@@ -115,7 +115,7 @@ fn a_failed_switch_is_tried_once_a_day(rt: HostRuntime) -> Result<(), Fail> {
     assert_eq!(rt; faults.last, Some(FolderFault::Refused));
     assert_eq!(rt; trace.starved(0, 0), Some(0));
     assert_eq!(rt; trace.starved(0, 1), None);
-    assert!(rt; trace.sink(0, 0, 1).is_none());
+    assert!(rt; trace.sink(1).is_none());
     Ok(())
 }
 
@@ -140,9 +140,9 @@ fn one_sinks_faults_change_no_other_sink(rt: HostRuntime) -> Result<(), Fail> {
         ("app.2025-02-18", "app: b\n"),
     ];
     has_files(&rt, &trace, 1, &wanted)?;
-    let faults = trace.sink(0, 0, 0).ok_or("a sink")?.appender().faults();
+    let faults = trace.sink(0).ok_or("a sink")?.appender().faults();
     assert_eq!(rt; (faults.switches, faults.writes), (1, 2));
-    let faults = trace.sink(0, 0, 1).ok_or("a sink")?.appender().faults();
+    let faults = trace.sink(1).ok_or("a sink")?.appender().faults();
     assert_eq!(rt; (faults.switches, faults.writes), (0, 0));
     Ok(())
 }

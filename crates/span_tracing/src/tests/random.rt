@@ -4,9 +4,10 @@ use crate::tests::common::{MONDAY, event_at, lent_number, lent_text, span_at};
 use crate::tests::holders::Holders;
 use crate::tests::model::{FILTERS, LANES, Model, OUTPUTS, Under};
 use crate::{
-    Fields, FileStack, Filtered, FixedText, FmtSpan, Format, Json, Layer, LineFormat, MemoryFolder,
-    Output, OutputKey, Parent, PendingLines, Pretty, Refusal, Reply, RollingFileAppender,
-    RollingSink, Rotation, RoutedSinks, SpanName, Stack, Timer, Trace, TraceStack,
+    AnySink, Fields, FileStack, Filtered, FixedText, FmtSpan, Format, Json, Layer, LineFormat,
+    MemoryFolder, Output, OutputKey, Parent, PendingLines, Pretty, Refusal, Reply,
+    RollingFileAppender, RollingSink, Rotation, RoutedSinks, SpanName, Stack, Timer, Trace,
+    TraceStack,
 };
 use std::alloc::Global;
 use std::num::NonZeroU64;
@@ -101,7 +102,7 @@ fn stack_of_four(alloc: Global) -> Result<Outputs, Fail> {
             "lines",
             MONDAY,
         ).map_err(|refusal| refusal.error)?;
-        let sink = RoutedSinks::single(alloc, RollingSink::new(appender))?;
+        let sink = RoutedSinks::single(alloc, AnySink::Direct(RollingSink::new(appender)))?;
         sinks.push(sink).ok().ok_or("room")?;
     }
     let stack = Stack::new(alloc, outputs).ok().ok_or("a stack")?;
@@ -335,7 +336,7 @@ impl Both {
     fn has_texts(&self, rt: &impl Abort) -> Result<(), Fail> {
         for (stack, model) in self.models.iter().enumerate() {
             for (output, text) in model.texts.iter().enumerate() {
-                let sink = self.trace.sink(stack, output, 0).ok_or("a sink")?;
+                let sink = self.trace.sink(OUTPUTS * stack + output).ok_or("a sink")?;
                 let files = sink.appender().folder().files()?;
                 assert_eq!(rt; files.len(), 1);
                 for file in &files {

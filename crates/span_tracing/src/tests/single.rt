@@ -2,8 +2,8 @@
 
 use crate::tests::common::{MONDAY, event_at, lent_text, span_at};
 use crate::{
-    Fields, FileStack, Filtered, FixedText, Format, Layer, LineFormat, MemoryFolder, Output,
-    OutputKey, Parent, PendingLines, Reply, RollingFileAppender, RollingSink, Rotation,
+    AnySink, Fields, FileStack, Filtered, FixedText, Format, Layer, LineFormat, MemoryFolder,
+    Output, OutputKey, Parent, PendingLines, Reply, RollingFileAppender, RollingSink, Rotation,
     RoutedSinks, Stack, Timer, Trace, TraceStack,
 };
 use std::alloc::Global;
@@ -44,7 +44,7 @@ fn trace_over(
         |refusal| refusal.error,
     )?;
     let outputs = vec![in alloc; output].ok().ok_or("room")?;
-    let sink = RoutedSinks::single(alloc, RollingSink::new(appender))?;
+    let sink = RoutedSinks::single(alloc, AnySink::Direct(RollingSink::new(appender)))?;
     let sinks = vec![in alloc; sink].ok().ok_or("room")?;
     let stack = Stack::new(alloc, outputs).ok().ok_or("a stack")?;
     let stack = TraceStack::new(stack, sinks).ok().ok_or("a pair")?;
@@ -68,7 +68,7 @@ fn tell(rt: &impl Abort, alloc: Global, trace: &mut Trace<Outputs>) -> Result<()
 
 /// The text of the one file.
 fn has_text(rt: &impl Abort, trace: &Trace<Outputs>, text: &str) -> Result<(), Fail> {
-    let sink = trace.sink(0, 0, 0).ok_or("a sink")?;
+    let sink = trace.sink(0).ok_or("a sink")?;
     let files = sink.appender().folder().files()?;
     let file = files.first().ok_or("a file")?;
     assert_eq!(rt; files.len(), 1);

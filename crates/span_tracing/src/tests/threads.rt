@@ -65,7 +65,7 @@ fn text_after_events(alloc: Global, lines: LineSettings) -> Result<String, Fail>
         let message = lent_text(0, "hello");
         is_done(trace.event(lane, MONDAY, HELLO, Parent::Contextual, &[message]))?;
     }
-    let sink = trace.sink(0, 0, 0).ok_or("a sink")?;
+    let sink = trace.sink(0).ok_or("a sink")?;
     let files = sink.appender().folder().files()?;
     let file = files.first().ok_or("a file")?;
     Ok(String::from_str(alloc, str_of(&file.bytes)?)?)

@@ -83,7 +83,7 @@ module _ {N E F S : Type 0} (n : Ghosts N) (line_of : E → Settings → PlainCo
     new = counted.new;
     lane_added = λ v thread is. lane_counted v is;
     taken = λ v number is. is;
-    added = λ v x handle w ready own adds is. subst IsCounted (sym (setup.added v x handle w ready own adds).3)
+    added = λ sinks_in v x handle w ready own adds is. subst IsCounted (sym (setup.added sinks_in v x handle w ready own adds).3)
         (counted.stack_added (skeleton_of v) (bare (registry_of x)) (outputs_in x) is);
     registered = λ v m r w ready goes is. registered_counted (skeleton_of v) (skeleton_of w) m r (setup.registered v m r w ready goes).2 is;
     swapped = λ v output filter reply w back ready own goes is. subst IsCounted

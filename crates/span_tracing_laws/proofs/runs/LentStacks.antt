@@ -53,9 +53,10 @@ module _ {T : Type 0} where
   abbrev pub with_new : Table T TraceCallsite → T → Table T TraceCallsite
   with_new t z = record t { subscribers = t.subscribers ++ living t.next z ∷ []; next = t.next + 1 }
 
-  abbrev added_to : StateValue T → ℕ → StateValue T
-  added_to v count = record v {
+  abbrev added_to : StateValue T → ℕ → ℕ → StateValue T
+  added_to v count sinks = record v {
     outputs = v.outputs ++ count ∷ [];
+    sinks = v.sinks ++ sinks ∷ [];
     handles = v.handles ++ Some (Some v.hub.next) ∷ [];
     retired = v.retired ++ None ∷ [];
   }
@@ -148,13 +149,13 @@ module _ {T : Type 0} (registry_of : T → RegistryValue) where
         ∙ ap (λ (ks : List HeldStack). record (skeleton_of registry_of v) { stacks = ks }) (lent_skeleton v stack x y there spans)
 
     -- where one is added
-    pub added_skeleton : (v w : StateValue T) (x z : T) (count : ℕ) → z ≡ x → Refreshed g ghosts (with_new v.hub z) w.hub →
-        w ≡ record (added_to v count) { hub = w.hub } →
+    pub added_skeleton : (v w : StateValue T) (x z : T) (count sinks : ℕ) → z ≡ x → Refreshed g ghosts (with_new v.hub z) w.hub →
+        w ≡ record (added_to v count sinks) { hub = w.hub } →
         skeleton_of registry_of w ≡ with_stack (skeleton_of registry_of v) (bare (registry_of x)) count
-    added_skeleton v w x z count same formed left =
+    added_skeleton v w x z count sinks same formed left =
         let next = v.hub.next in
         let after : T → Skeleton = λ y. with_stack (skeleton_of registry_of v) (bare (registry_of y)) count in
-        formed_skeleton false (added_to v count) w (with_new v.hub z) formed left
+        formed_skeleton false (added_to v count sinks) w (with_new v.hub z) formed left
         ∙ ap (λ (ks : List HeldStack). record (after z) { stacks = ks; handles = map inner (v.handles ++ Some (Some next) ∷ []) })
         (map-append hs v.hub.subscribers (living next z ∷ []))
         ∙ ap (λ (ns : List (Option ℕ)). record (after z) { handles = ns }) (map-append inner v.handles (Some (Some next) ∷ []))

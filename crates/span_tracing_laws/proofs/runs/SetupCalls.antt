@@ -159,12 +159,12 @@ module _ {N E F S : Type 0} (n : Ghosts N) (line_of : E → Settings → PlainCo
   apart_from : (a b : ℕ) → (a == b) ≡ false → (b == a) ≡ false
   apart_from a b e = grind arith
 
-  added_goes : (v : Traced N E F S) (x : Stack) (handle : ℕ) (w : Traced N E F S) → TraceIsReady g h v → IsReady g x →
-      AddGives sg outputs_in v x (Ok handle) w →
+  added_goes : (sinks_in : Stack → ℕ) (v : Traced N E F S) (x : Stack) (handle : ℕ) (w : Traced N E F S) → TraceIsReady g h v →
+      IsReady g x → AddGives sg outputs_in sinks_in v x (Ok handle) w →
       TraceIsReady g h w × Keeps (Some x) (stack_in w v.hub.next) ×
       ((stack : ℕ) → (stack == v.hub.next) ≡ false → Keeps (stack_in v stack) (stack_in w stack)) ×
       (skeleton_of w ≡ with_stack (skeleton_of v) (bare (registry_of x)) (outputs_in x))
-  added_goes v x handle w ready own (told, adds, left) =
+  added_goes sinks_in v x handle w ready own (told, adds, left) =
       let next = v.hub.next in
       let es = v.hub.subscribers in
       let z = adds.1.0 in
@@ -200,7 +200,7 @@ module _ {N E F S : Type 0} (n : Ghosts N) (line_of : E → Settings → PlainCo
             keeps_alike (held_in v stack) (held_in w stack) (slice_get v.retired stack) (slice_get w.retired stack) (ready.stacks stack)
             (other_alike stack apart)
             (ap (λ (rs : List (Option Stack)). inner (slice_get rs stack)) retired ∙ none_appended v.retired stack),
-        added_skeleton registry_of sg spans_asked spans_hinted v w x z (outputs_in x) same formed left,
+        added_skeleton registry_of sg spans_asked spans_hinted v w x z (outputs_in x) (sinks_in x) same formed left,
       )
 
   -- a callsite is registered

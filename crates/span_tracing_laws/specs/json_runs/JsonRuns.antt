@@ -24,6 +24,8 @@ use Rattle.span_tracing_laws.specs.json.Objects.{AreObjectLines, IsJsonOut, Keep
 use Rattle.span_tracing_laws.specs.json.Texts.{AreObjectsHanded, HoldsObjects, IsObjectLines}
 use Rattle.span_tracing_outputs.specs.sinks.Fates.{NoneDropped}
 use Rattle.span_tracing_outputs.specs.sinks.Routed.{Routed}
+use Rattle.span_tracing_outputs.specs.declared.sinks.any_sink.AnySink.{AnySink}
+use Rattle.span_tracing_outputs.specs.declared.sinks.any_sink.AnySink.TheVariants.{Direct}
 use Rattle.span_tracing_outputs.specs.declared.sinks.sink.RollingSink.{RollingSink}
 use Rattle.span_tracing_steps.specs.States.{stack_in}
 use Rattle.span_tracing_laws.specs.runs.Files.{FileTrace, FilesStand, routed_at}
@@ -56,13 +58,13 @@ abbrev pub FileHoldsObjects : PrunedSink → Contents → List ℕ → Type 0
 FileHoldsObjects s c name = IfSome (s.sink.found name) IsObjectLines → IfSome (bytes_at c.files name) HoldsObjects
 
 module _ {N E F D : Type 0} (contents : D → Option Contents) where
-  -- so do all files of each sink of a stack's output at a place, where the sink dropped no line in the run, was handed objects alone
+  -- so do all files of each direct sink of a stack's output at a place, where the sink dropped no line in the run, was handed objects alone
   -- before it, and the contents of its folder are known
   abbrev pub SinksHoldObjects : FileTrace N E F D → FileTrace N E F D → ℕ → ℕ → Type 0
   SinksHoldObjects v w stack place =
-      (number : ℕ) (olds news : Routed (RollingSink D)) (old new : RollingSink D) → routed_at (stack_in v stack) place ≡ Some olds →
+      (number : ℕ) (olds news : Routed (AnySink D)) (old new : RollingSink D) → routed_at (stack_in v stack) place ≡ Some olds →
       routed_at (stack_in w stack) place ≡ Some news →
-      slice_get olds.sinks number ≡ Some old → slice_get news.sinks number ≡ Some new → NoneDropped old new → (s : PrunedSink) →
+      slice_get olds.sinks number ≡ Some (Direct old) → slice_get news.sinks number ≡ Some (Direct new) → NoneDropped old new → (s : PrunedSink) →
       AgreesSink contents old.appender s → AreObjectsHanded s.sink.handed →
       (c : Contents) → contents new.appender.folder ≡ Some c → (name : List ℕ) → FileHoldsObjects s c name
 

@@ -77,8 +77,9 @@ module _ {N E F S : Type 0} (n : Ghosts N) (line_of : E → Settings → PlainCo
   -- under the next number, with a handle and its outputs counted; a callsite that is registered stands behind the others. A call that
   -- lets filters change places leaves a trace so, too, but for that filter, where the one that comes is honest.
   pub record SetupFollows : Type 0 where
-    pub added : (v : Traced N E F S) (x : TraceStackValue N E F S) (handle : ℕ) (w : Traced N E F S) → TraceIsReady g h v → IsReady g x →
-        AddGives sg outputs_in v x (Ok handle) w → TraceIsReady g h w × StackKeeps n line_of g (Some x) (stack_in w v.hub.next) ×
+    pub added : (sinks_in : TraceStackValue N E F S → ℕ) (v : Traced N E F S) (x : TraceStackValue N E F S) (handle : ℕ)
+        (w : Traced N E F S) → TraceIsReady g h v → IsReady g x →
+        AddGives sg outputs_in sinks_in v x (Ok handle) w → TraceIsReady g h w × StackKeeps n line_of g (Some x) (stack_in w v.hub.next) ×
         ((stack : ℕ) → (stack == v.hub.next) ≡ false → StackKeeps n line_of g (stack_in v stack) (stack_in w stack)) ×
         (skeleton_of w ≡ with_stack (skeleton_of v) (bare (registry_of x)) (outputs_in x))
     pub registered : (v : Traced N E F S) (m : PlainMetadata) (r : Result PlainInterest Refusal) (w : Traced N E F S) →
@@ -97,8 +98,9 @@ module _ {N E F S : Type 0} (n : Ghosts N) (line_of : E → Settings → PlainCo
     pub lane_added : (v : Traced N E F S) (thread : PlainThread) → IsCounted (skeleton_of v) → IsCounted (skeleton_of
         (with_thread v thread))
     pub taken : (v : Traced N E F S) (number : ℕ) → IsCounted (skeleton_of v) → IsCounted (skeleton_of (without_retired v number))
-    pub added : (v : Traced N E F S) (x : TraceStackValue N E F S) (handle : ℕ) (w : Traced N E F S) → TraceIsReady g h v → IsReady g x →
-        AddGives sg outputs_in v x (Ok handle) w → IsCounted (skeleton_of v) → IsCounted (skeleton_of w)
+    pub added : (sinks_in : TraceStackValue N E F S → ℕ) (v : Traced N E F S) (x : TraceStackValue N E F S) (handle : ℕ)
+        (w : Traced N E F S) → TraceIsReady g h v → IsReady g x →
+        AddGives sg outputs_in sinks_in v x (Ok handle) w → IsCounted (skeleton_of v) → IsCounted (skeleton_of w)
     pub registered : (v : Traced N E F S) (m : PlainMetadata) (r : Result PlainInterest Refusal) (w : Traced N E F S) →
         TraceIsReady g h v → RegisterGives sg v m r w → IsCounted (skeleton_of v) → IsCounted (skeleton_of w)
     pub swapped : (v : Traced N E F S) (output : ℕ) (filter : F) (reply : Reply) (w : Traced N E F S) (back : F) → TraceIsReady g h v →

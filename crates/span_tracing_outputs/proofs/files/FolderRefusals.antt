@@ -1,7 +1,7 @@
 -- Where all names are good, only folders and memory are left to refuse.
 use Rattle.std.proofs.Common.{arith, ◌≡◌, ◌<◌, ◌≤◌, ℕ, Bool, true, false, List, [], ◌∷◌, length, map, get_or, Option, Some, None}
 use Rattle.std.proofs.Common.{Result, Ok, Err}
-use Rattle.std.proofs.Common.{IfErr, ◌⊎◌, inl, inr, refl, sym, subst, ◌∙◌}
+use Rattle.std.proofs.Common.{IfErr, ◌⊎◌, ◌==◌, inl, inr, refl, sym, subst, ◌∙◌}
 use Rattle.std.specs.Result.{IsErrAnd}
 use Rattle.tracing_core_fields.specs.requests.Lists.{Every}
 use Rattle.span_registry_layers_store.specs.declared.slot.OutputKey.{OutputKey}
@@ -10,22 +10,21 @@ use Rattle.span_tracing_skeleton.specs.declared.refusal.Refusal.TheVariants.{Out
 use Rattle.tracing_core_moments.specs.declared.moment.Moment.{Moment}
 use Rattle.tracing_appender_rolling.specs.folders.Contents.{Contents}
 use Rattle.tracing_appender_rolling.specs.Builders.{builder_names, is_whole}
-use Rattle.tracing_appender_rolling.specs.Names.{HasGoodLink, is_bad_name}
-use Rattle.tracing_appender_rolling.specs.Builds.{Builds, Explains, IsBuilt, MissesText, ReportsBuild}
+use Rattle.tracing_appender_rolling.specs.Names.{FileNames, HasGoodLink, is_bad_name}
+use Rattle.tracing_appender_rolling.specs.Builds.{Builds, Explains, MissesText, ReportsBuild}
 use Rattle.tracing_appender_rolling.specs.declared.appender.RollingFileAppender.{RollingFileAppender}
 use Rattle.tracing_appender_rolling.specs.declared.build.BuildError.{BuildError}
 use Rattle.tracing_appender_rolling.specs.declared.build.BuildError.TheVariants as builds
 use Rattle.tracing_appender_rolling.specs.declared.build.BuildRefusal.{BuildRefusal}
 use Rattle.tracing_appender_rolling.specs.declared.builder.Builder.{Builder}
-use Rattle.span_tracing_outputs.specs.files.OpenedStack.{OpensSink, of_all, routing_of}
-use Rattle.span_tracing_outputs.specs.files.OpenRefusals.{FirstTells, FolderTells, InOne, IsLate, IsRouted, IsToldOf}
-use Rattle.span_tracing_outputs.specs.files.OpenRefusals.{NamesAnswer, OutputsTell}
-use Rattle.span_tracing_outputs.specs.files.OpenRefusals.{RoutingRefuses, SinkRefuses, SinkTells, SinksTell, at_output, of_sink}
+use Rattle.span_tracing_outputs.specs.files.OpenedStack.{OpensFiles, of_all, routing_of}
+use Rattle.span_tracing_outputs.specs.files.OpenRefusals.{FilesRefuse, FilesTell, FirstTells, FolderTells, InOne, IsLate, IsRouted}
+use Rattle.span_tracing_outputs.specs.files.OpenRefusals.{IsToldOf, LimitTells, NamesAnswer, NamesTell, OutputsTell, RoutingRefuses}
+use Rattle.span_tracing_outputs.specs.files.OpenRefusals.{SinkRefuses, SinkTells, SinksTell, at_output, of_sink}
 use Rattle.span_tracing_outputs.specs.declared.files.open_error.OpenStackError.{OpenStackError}
-use Rattle.span_tracing_outputs.specs.declared.sinks.sink.RollingSink.{RollingSink}
 use Rattle.span_tracing_outputs.specs.declared.files.output_spec.OutputSpec.{OutputSpec}
 use Rattle.span_tracing_outputs.specs.declared.files.output_spec.SinkSpec.{SinkSpec}
-use Rattle.span_tracing_outputs.specs.declared.files.output_spec.SinkSpec.TheVariants.{Direct}
+use Rattle.span_tracing_outputs.specs.declared.files.output_spec.SinkSpec.TheVariants.{Direct, Queued}
 
 -- a refusal goes out as it came
 pub goes_out : {A E : Type 0} (told : E → Type 0) (answer : Result A E) (error : E) → IsErrAnd answer (λ e. e ≡ error) → told error →
@@ -59,44 +58,57 @@ module _ {D : Type 0} (failed : D → ℕ) where
   -- at any sink memory may be short
   pub memory_refuses : (key : OutputKey) (sink : SinkSpec D) → SinkRefuses failed key (at_output key OutOfMemory) sink
   memory_refuses key (Direct builder folder) = inr (inr refl)
+  memory_refuses key (Queued builder folder limit lossy) = inr (inr (inr refl))
 
   refuses_by : (contents : D → Option Contents) (key : OutputKey) (builder : Builder) (folder back : D) (m : Moment) (e : BuildError) →
       Explains contents (builder_names builder) folder m e back → ReportsBuild (failed folder) e (failed back) →
-      SinkRefuses failed key (of_sink key e) (Direct builder folder)
+      FilesRefuse failed key (of_sink key e) builder folder
   refuses_by contents key builder folder back m builds.BadName (bad, same) told = inl (refl, inl (refl, bad))
   refuses_by contents key builder folder back m builds.BadLinkName (fine, link, same) told = inl (refl, inr (refl, fine, link))
   refuses_by contents key builder folder back m (builds.Init fault) explained told = inr (inl (fault, refl, back, told))
   refuses_by contents key builder folder back m builds.OutOfMemory explained told = inr (inr refl)
 
   -- an appender that wasn't built
-  pub sink_refuses : (contents : D → Option Contents) (key : OutputKey) (builder : Builder) (folder : D) (m : Moment)
+  pub files_refuse : (contents : D → Option Contents) (key : OutputKey) (builder : Builder) (folder : D) (m : Moment)
       (refused : BuildRefusal D) → Builds contents failed (builder_names builder) folder m (Err refused) →
-      SinkRefuses failed key (of_sink key refused.error) (Direct builder folder)
-  sink_refuses contents key builder folder m refused gave =
+      FilesRefuse failed key (of_sink key refused.error) builder folder
+  files_refuse contents key builder folder m refused gave =
       refuses_by contents key builder folder refused.folder m refused.error gave.explained gave.told
 
   -- one that was built of a builder, for which no text is missing
-  pub sink_opens : (contents : D → Option Contents) (builder : Builder) (folder : D) (m : Moment) (built : RollingFileAppender D)
-      (sink : RollingSink D) → Builds contents failed (builder_names builder) folder m (Ok built) →
+  pub files_open : (contents : D → Option Contents) (builder : Builder) (folder : D) (m : Moment) (built : RollingFileAppender D) →
+      Builds contents failed (builder_names builder) folder m (Ok built) →
       (is_whole builder ≡ false → is_bad_name (builder_names builder) ≡ false → HasGoodLink (builder_names builder) →
-      MissesText folder (Ok built)) → sink.appender ≡ built → sink.dropped ≡ 0 →
-      OpensSink contents failed m (Direct builder folder) sink
-  sink_opens contents builder folder m built sink gave missed same none = (
-    subst (λ (a : RollingFileAppender D). IsBuilt contents failed (builder_names builder) folder m a) (sym same) gave,
-    none,
-    whole (is_whole builder) (λ is. missed is gave.good_name gave.good_link),
-  )
+      MissesText folder (Ok built)) → OpensFiles contents failed m builder folder built
+  files_open contents builder folder m built gave missed = record {
+    built = gave;
+    whole = whole (is_whole builder) (λ is. missed is gave.good_name gave.good_link);
+  }
     where
       whole : (b : Bool) → (b ≡ false → ⊥) → b ≡ true
       whole true never = refl
       whole false never = absurd (never refl)
 
 module _ {D : Type 0} (failed : D → ℕ) (key : OutputKey) (told : OpenStackError) where
+  late_files : (builder : Builder) (folder : D) → FilesRefuse failed key told builder folder → NamesTell (builder_names builder) None →
+      FilesTell failed key told folder ⊎ (told ≡ at_output key OutOfMemory)
+  late_files builder folder (inr late) good = late
+  late_files builder folder (inl (at, inl (is, bad))) good = absurd (let clash : true ≡ false = sym bad ∙ good.0 in cc)
+  late_files builder folder (inl (at, inr (is, fine, link))) good = absurd (good.1 link.0 link.1 link.2)
+
+  limitless : (names : FileNames) → LimitTells true names None → ⊥
+  limitless names told = cc
+
+  named : (b : Bool) (names : FileNames) → LimitTells b names None → NamesTell names None
+  named true names told = absurd (limitless names told)
+  named false names told = told
+
   late_sink : (sink : SinkSpec D) → SinkRefuses failed key told sink → SinkTells sink None →
       FolderTells failed key told sink ⊎ (told ≡ at_output key OutOfMemory)
-  late_sink (Direct builder folder) (inr late) good = late
-  late_sink (Direct builder folder) (inl (at, inl (is, bad))) good = absurd (let clash : true ≡ false = sym bad ∙ good.0 in cc)
-  late_sink (Direct builder folder) (inl (at, inr (is, fine, link))) good = absurd (good.1 link.0 link.1 link.2)
+  late_sink (Direct builder folder) refuses good = late_files builder folder refuses good
+  late_sink (Queued builder folder limit lossy) (inl (at, none)) good =
+      absurd (limitless (builder_names builder) (subst (λ (n : ℕ). LimitTells (n == 0) (builder_names builder) None) none good))
+  late_sink (Queued builder folder limit lossy) (inr refuses) good = late_files builder folder refuses (named (limit == 0) (builder_names builder) good)
 
   one_late : (sink : SinkSpec D) (sinks : List (SinkSpec D)) → FolderTells failed key told sink ⊎ (told ≡ at_output key OutOfMemory) →
       IsLate failed key told (sink ∷ sinks)

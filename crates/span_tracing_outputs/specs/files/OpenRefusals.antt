@@ -1,7 +1,8 @@
 -- Which refusal is told of outputs whose files can't be opened.
-use Rattle.std.specs.Prelude.{◌≡◌, ◌⊎◌, ℕ, true, false, List, [], ◌∷◌, length, Option, Some, None, Result, Ok, Err}
+use Rattle.std.specs.Prelude.{◌≡◌, ◌⊎◌, ◌==◌, ℕ, Bool, true, false, List, [], ◌∷◌, length, Option, Some, None, Result, Ok, Err}
 use Rattle.tracing_appender_rolling.specs.Builders.{builder_names}
 use Rattle.tracing_appender_rolling.specs.FaultReports.{Rises}
+use Rattle.tracing_appender_rolling.specs.declared.builder.Builder.{Builder}
 use Rattle.tracing_appender_rolling.specs.declared.build.BuildError.{BuildError}
 use Rattle.tracing_appender_rolling.specs.declared.build.BuildError.TheVariants as builds
 use Rattle.tracing_appender_rolling.specs.declared.init.InitError.{InitError}
@@ -9,13 +10,13 @@ use Rattle.tracing_appender_rolling.specs.Names.{FileNames, is_bad_name, HasBadL
 use Rattle.event_formatter_text.specs.makers.Routes.{is_good_route}
 use Rattle.span_registry_layers_store.specs.declared.slot.OutputKey.{OutputKey}
 use Rattle.span_tracing_skeleton.specs.declared.refusal.Refusal.{Refusal}
-use Rattle.span_tracing_skeleton.specs.declared.refusal.Refusal.TheVariants.{BadLinkName, BadName, BadRoute, OutOfMemory}
+use Rattle.span_tracing_skeleton.specs.declared.refusal.Refusal.TheVariants.{BadLinkName, BadName, BadRoute, OutOfMemory, ZeroLimit}
 use Rattle.span_tracing_outputs.specs.files.OpenedStack.{build_refusal, of_all}
 use Rattle.span_tracing_outputs.specs.declared.files.open_error.OpenStackError.{OpenStackError}
 use Rattle.span_tracing_outputs.specs.declared.files.opening.Routing.{Routing}
 use Rattle.span_tracing_outputs.specs.declared.files.output_spec.OutputSpec.{OutputSpec}
 use Rattle.span_tracing_outputs.specs.declared.files.output_spec.SinkSpec.{SinkSpec}
-use Rattle.span_tracing_outputs.specs.declared.files.output_spec.SinkSpec.TheVariants.{Direct}
+use Rattle.span_tracing_outputs.specs.declared.files.output_spec.SinkSpec.TheVariants.{Direct, Queued}
 
 -- what is told of an output
 abbrev pub at_output : OutputKey → Refusal → OpenStackError
@@ -37,6 +38,11 @@ NamesTell names None = (is_bad_name names ≡ false) × HasGoodLink names
 NamesTell names (Some told) = ((told ≡ BadName) × (is_bad_name names ≡ true)) ⊎
     ((told ≡ BadLinkName) × (is_bad_name names ≡ false) × HasBadLink names)
 
+-- so of a queued sink, for whose lines there has to be room
+abbrev pub LimitTells : Bool → FileNames → Option Refusal → Type 0
+LimitTells true names told = told ≡ Some ZeroLimit
+LimitTells false names told = NamesTell names told
+
 -- what the first of them tells that tells something
 abbrev pub FirstTells : {A T : Type 0} → (A → Option T → Type 0) → List A → Option T → Type 0
 FirstTells tells [] None = Unit {0}
@@ -50,30 +56,42 @@ InOne does [] = ⊥
 InOne does (x ∷ xs) = does x ⊎ InOne does xs
 
 module _ {D : Type 0} (failed : D → ℕ) where
-  -- the sink's folder refused to open a file of the output, with this fault, and counted it
-  abbrev pub FolderTells : OutputKey → OpenStackError → SinkSpec D → Type 0
-  FolderTells key told (Direct builder folder) =
+  -- the folder refused to open a file of the output, with this fault, and counted it
+  abbrev pub FilesTell : OutputKey → OpenStackError → D → Type 0
+  FilesTell key told folder =
       (fault : InitError) × (told ≡ of_sink key (builds.Init fault)) × (back : D) × Rises (failed folder) (failed back)
+
+  -- so of a sink
+  abbrev pub FolderTells : OutputKey → OpenStackError → SinkSpec D → Type 0
+  FolderTells key told (Direct builder folder) = FilesTell key told folder
+  FolderTells key told (Queued builder folder limit lossy) = FilesTell key told folder
 
   -- the folder of one of the sinks refused, or there was no memory
   abbrev pub IsLate : OutputKey → OpenStackError → List (SinkSpec D) → Type 0
   IsLate key told sinks = InOne (FolderTells key told) sinks ⊎ (told ≡ at_output key OutOfMemory)
 
 module _ {D : Type 0} where
-  -- what is wrong with the names of a sink's files
+  -- what is wrong with a sink's queue, or with the names of its files
   abbrev pub SinkTells : SinkSpec D → Option Refusal → Type 0
   SinkTells (Direct builder folder) told = NamesTell (builder_names builder) told
+  SinkTells (Queued builder folder limit lossy) told = LimitTells (limit == 0) (builder_names builder) told
 
-  -- the first bad name, sinks in order
+  -- the first queue without room or bad name, sinks in order
   abbrev pub SinksTell : List (SinkSpec D) → Option Refusal → Type 0
   SinksTell sinks told = FirstTells SinkTells sinks told
 
 module _ {D : Type 0} (failed : D → ℕ) where
-  -- a sink of the output with this key can't be opened for its names, or its folder refuses, or there is no memory
-  abbrev pub SinkRefuses : OutputKey → OpenStackError → SinkSpec D → Type 0
-  SinkRefuses key told (Direct builder folder) =
+  -- files of the output with this key can't be opened for their names, or the folder refuses, or there is no memory
+  abbrev pub FilesRefuse : OutputKey → OpenStackError → Builder → D → Type 0
+  FilesRefuse key told builder folder =
       ((told ≡ at_output key told.refusal) × NamesTell (builder_names builder) (Some told.refusal)) ⊎
-      (FolderTells failed key told (Direct builder folder) ⊎ (told ≡ at_output key OutOfMemory))
+      (FilesTell failed key told folder ⊎ (told ≡ at_output key OutOfMemory))
+
+  -- so of a sink; or its queue has no room for a line
+  abbrev pub SinkRefuses : OutputKey → OpenStackError → SinkSpec D → Type 0
+  SinkRefuses key told (Direct builder folder) = FilesRefuse key told builder folder
+  SinkRefuses key told (Queued builder folder limit lossy) =
+      ((told ≡ at_output key ZeroLimit) × (limit ≡ 0)) ⊎ FilesRefuse key told builder folder
 
   -- a sink of an output can't be opened, or its route isn't good, or there is no memory
   abbrev pub RoutingRefuses : OpenStackError → Routing D → Type 0
@@ -88,7 +106,7 @@ module _ {F D : Type 0} where
   OutputTells spec None = SinksTell spec.sinks.items None
   OutputTells spec (Some told) = (told.0 ≡ spec.key) × SinksTell spec.sinks.items (Some told.1)
 
-  -- the first bad name, outputs and sinks in order
+  -- the first queue without room or bad name, outputs and sinks in order
   abbrev pub OutputsTell : List (OutputSpec F D) → Option (OutputKey × Refusal) → Type 0
   OutputsTell specs told = FirstTells OutputTells specs told
 
@@ -97,14 +115,15 @@ module _ {F D : Type 0} where
   IsRouted spec = is_good_route (length spec.sinks.items) spec.route ≡ true
 
 module _ {F D : Type 0} (failed : D → ℕ) where
-  -- the first bad name is told with its output, or out of memory; where all names are good, what one of the outputs meets where its files
+  -- the first of these is told with its output, or out of memory; where there is none, what one of the outputs meets where its files
   -- are opened, or out of memory before
   abbrev pub IsToldOf : List (OutputSpec F D) → Option (OutputKey × Refusal) → OpenStackError → Type 0
   IsToldOf specs (Some wrong) told = (told ≡ at_output wrong.0 wrong.1) ⊎ (told ≡ of_all OutOfMemory)
   IsToldOf specs None told =
       InOne (λ (spec : OutputSpec F D). IsLate failed spec.key told spec.sinks.items) specs ⊎ (told ≡ of_all OutOfMemory)
 
-  -- all names of a stack that is made are good; of one that isn't the first bad name is told, or what comes after names
+  -- all queues of a stack that is made have room, and all names are good; of one that isn't the first that hasn't is told, or what comes after
+  -- names
   abbrev pub NamesAnswer : {A : Type 0} → List (OutputSpec F D) → Result A OpenStackError → Type 0
   NamesAnswer specs (Ok made) = OutputsTell specs None
   NamesAnswer specs (Err told) = (wrong : Option (OutputKey × Refusal)) × OutputsTell specs wrong × IsToldOf specs wrong told

@@ -5,6 +5,10 @@ use Rattle.tracing_core_moments.specs.declared.moment.Moment.{Moment}
 use Rattle.tracing_appender_rolling.specs.folders.Contents.{Contents}
 use Rattle.tracing_appender_rolling.specs.Builders.{builder_names, is_whole}
 use Rattle.tracing_appender_rolling.specs.Builds.{IsBuilt}
+use Rattle.tracing_appender_queue.specs.Queue.{new_queue}
+use Rattle.tracing_appender_queue.specs.queued.HeldLines.{nothing_at}
+use Rattle.tracing_appender_rolling.specs.declared.appender.RollingFileAppender.{RollingFileAppender}
+use Rattle.tracing_appender_rolling.specs.declared.builder.Builder.{Builder}
 use Rattle.tracing_appender_rolling.specs.declared.build.BuildError.{BuildError}
 use Rattle.tracing_appender_rolling.specs.declared.build.BuildError.TheVariants as builds
 use Rattle.span_registry_layers_layers.specs.declared.filter.Filter.{Ghosts as FilterGhosts}
@@ -24,7 +28,8 @@ use Rattle.span_tracing_outputs.specs.StackFollows.{LinedStack}
 use Rattle.span_tracing_outputs.specs.TraceStacks.{NewGives, TraceStackValue}
 use Rattle.span_tracing_outputs.specs.Turns.{Lines}
 use Rattle.span_tracing_outputs.specs.sinks.Routed.{Routed}
-use Rattle.span_tracing_outputs.specs.declared.sinks.sink.RollingSink.{RollingSink}
+use Rattle.span_tracing_outputs.specs.declared.sinks.any_sink.AnySink.{AnySink}
+use Rattle.span_tracing_outputs.specs.declared.sinks.any_sink.AnySink.TheVariants as sinks
 use Rattle.span_tracing_skeleton.specs.declared.refusal.Refusal.{Refusal}
 use Rattle.span_tracing_skeleton.specs.declared.refusal.Refusal.TheVariants as refusals
 use Rattle.span_tracing_outputs.specs.files.Settings.{DescribesLayer, Shown}
@@ -32,7 +37,7 @@ use Rattle.span_tracing_outputs.specs.declared.files.open_error.OpenStackError.{
 use Rattle.span_tracing_outputs.specs.declared.files.opening.Routing.{Routing}
 use Rattle.span_tracing_outputs.specs.declared.files.output_spec.OutputSpec.{OutputSpec}
 use Rattle.span_tracing_outputs.specs.declared.files.output_spec.SinkSpec.{SinkSpec}
-use Rattle.span_tracing_outputs.specs.declared.files.output_spec.SinkSpec.TheVariants.{Direct}
+use Rattle.span_tracing_outputs.specs.declared.files.output_spec.SinkSpec.TheVariants.{Direct, Queued}
 
 abbrev pub stack_refusal : StackError → Refusal
 stack_refusal errors.NoOutput = refusals.NoOutput
@@ -110,19 +115,27 @@ module _ {N E F : Type 0} where
         stacks.NewGives h g rows (Err back) → rows_refusal rows ≡ None → stack_refusal back.error ≡ refusals.OutOfMemory
 
 module _ {D : Type 0} (contents : D → Option Contents) (failed : D → ℕ) (m : Moment) where
-  -- a sink over the file that was opened in its folder, after retention, which dropped no line yet; its builder missed no text
-  abbrev pub OpensSink : SinkSpec D → RollingSink D → Type 0
-  OpensSink (Direct builder folder) sink =
-      IsBuilt contents failed (builder_names builder) folder m sink.appender × (sink.dropped ≡ 0) × (is_whole builder ≡ true)
+  -- the file was opened in its folder, after retention; the builder missed no text
+  pub record OpensFiles (builder : Builder) (folder : D) (appender : RollingFileAppender D) : Type 0 where
+    pub built : IsBuilt contents failed (builder_names builder) folder m appender
+    pub whole : is_whole builder ≡ true
 
-  pub record OpensRouting (routing : Routing D) (routed : Routed (RollingSink D)) : Type 0 where
+  -- a sink over such a file, which dropped no line yet, or for whose queue no line waits
+  abbrev pub OpensSink : SinkSpec D → AnySink D → Type 0
+  OpensSink (Direct builder folder) (sinks.Direct sink) = OpensFiles builder folder sink.appender × (sink.dropped ≡ 0)
+  OpensSink (Direct builder folder) (sinks.Queued sink) = ⊥
+  OpensSink (Queued builder folder limit lossy) (sinks.Queued sink) =
+      OpensFiles builder folder sink.appender × (sink.waiting ≡ nothing_at (new_queue limit lossy))
+  OpensSink (Queued builder folder limit lossy) (sinks.Direct sink) = ⊥
+
+  pub record OpensRouting (routing : Routing D) (routed : Routed (AnySink D)) : Type 0 where
     pub route : routed.route ≡ routing.route
     pub sinks : Pairs OpensSink routing.sinks.items routed.sinks
 
 module _ {F D : Type 0} (contents : D → Option Contents) (failed : D → ℕ) (g : FilterGhosts F) (h : LayerGhosts Shown) (m : Moment)
     (lanes : List PlainLane) where
   -- a new stack of the outputs, whose lines know these threads of lanes, and whose files are all open
-  pub record OpensStack (specs : List (OutputSpec F D)) (made : TraceStackValue Fields (Format LineFormat Timer) F (Routed (RollingSink D)))
+  pub record OpensStack (specs : List (OutputSpec F D)) (made : TraceStackValue Fields (Format LineFormat Timer) F (Routed (AnySink D)))
       : Type 0 where
     pub outputs : List (Output (Filtered Shown F))
     pub stack : LinedStack Fields (Format LineFormat Timer) F

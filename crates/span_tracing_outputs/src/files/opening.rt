@@ -3,17 +3,18 @@ ghost use Rattle.std.specs.Prelude.{◌≡◌, ◌⊎◌, IfOk, IfErr, Some, Non
 ghost use Rattle.tracing_core_fields.specs.requests.Lists.{Every};
 ghost use Rattle.tracing_core_moments.specs.Moments.{is_moment};
 ghost use Rattle.span_tracing_outputs.specs.TraceFollows.{IsReady};
-ghost use Rattle.span_tracing_outputs.specs.files.OpenedStack.{Answers, OpensRouting, OpensSink, OpensStack, Pairs, RowOf, of_all};
-ghost use Rattle.span_tracing_outputs.specs.files.OpenedStack.{outputs_refusal, RowsAreTold, routing_of, stack_refusal};
+ghost use Rattle.span_tracing_outputs.specs.files.OpenedStack.{Answers, OpensFiles, OpensRouting, OpensSink, OpensStack, Pairs, RowOf};
+ghost use Rattle.span_tracing_outputs.specs.files.OpenedStack.{of_all, outputs_refusal, RowsAreTold, routing_of, stack_refusal};
 ghost use Rattle.span_tracing_outputs.specs.files.Threads.{lane_of};
-ghost use Rattle.span_tracing_outputs.specs.files.OpenRefusals.{InOne, IsRouted, NamesAnswer, OutputsTell, RoutingRefuses, SinkRefuses};
-ghost use Rattle.span_tracing_outputs.specs.files.OpenRefusals.{SinkTells, SinksTell};
+ghost use Rattle.span_tracing_outputs.specs.files.OpenRefusals.{FilesRefuse, InOne, IsRouted, NamesAnswer, NamesTell, OutputsTell};
+ghost use Rattle.span_tracing_outputs.specs.files.OpenRefusals.{RoutingRefuses, SinkRefuses, SinkTells, SinksTell};
+ghost use Rattle.tracing_appender_rolling.specs.Builders.{builder_names};
 
 use crate::files::lane_thread::LaneThread;
 use crate::files::line_settings::Lines;
 use crate::files::open_error::OpenStackError;
 use crate::files::output_spec::{OutputSpec, SinkSpec};
-use crate::sinks::{RollingSink, RoutedSinks};
+use crate::sinks::{AnySink, RollingSink, RoutedSinks};
 use crate::{PendingLines, TraceStack, trace_starts};
 use event_formatter::{Fields, Format, FormatEvent, Layer, LineFormat, Timer};
 use event_formatter_text::{FormatFields, Route};
@@ -22,7 +23,8 @@ use span_registry_layers_layers::{Filter, Filtered};
 use span_registry_layers_store::OutputKey;
 use span_tracing_skeleton::Refusal;
 use std::alloc::{AllocError, Global};
-use tracing_appender_rolling::{Builder, Folder};
+use tracing_appender_queue::{QueuedSink, Waiting};
+use tracing_appender_rolling::{Builder, Folder, RollingFileAppender};
 use tracing_core_moments::Moment;
 
 /// A stack whose outputs have lines of any format, under filters `F`, and whose lines go to rolling files in folders `D`.
@@ -30,7 +32,7 @@ pub type FileStack<F, D> = TraceStack<
     Fields,
     Format<LineFormat, Timer>,
     F,
-    RoutedSinks<RollingSink<D>>,
+    RoutedSinks<AnySink<D>>,
 >;
 
 /// What an output needs besides its files.
@@ -55,11 +57,10 @@ fn stack_refusal(error: StackError) -> Refusal
     }
 }
 
-/// Why a sink's files can't have their names.
-fn name_refusal<D>(sink: &SinkSpec<D>) -> Option<Refusal>
-    ensures { SinkTells sink.now result }
+/// Why files can't have their names.
+fn name_refusal(builder: &Builder) -> Option<Refusal>
+    ensures { NamesTell (builder_names builder.now) result }
 {
-    let SinkSpec::Direct(builder, _) = sink;
     if builder.has_bad_name() {
         Some(Refusal::BadName)
     } else if builder.has_bad_link() {
@@ -69,13 +70,28 @@ fn name_refusal<D>(sink: &SinkSpec<D>) -> Option<Refusal>
     }
 }
 
+/// Why a sink can't be, before its folder is asked.
+fn sink_refusal<D>(sink: &SinkSpec<D>) -> Option<Refusal>
+    ensures { SinkTells sink.now result }
+{
+    match sink {
+        SinkSpec::Direct(builder, _) => name_refusal(builder),
+        SinkSpec::Queued(builder, _, limit, _) => {
+            if *limit == 0 {
+                return Some(Refusal::ZeroLimit);
+            }
+            name_refusal(builder)
+        }
+    }
+}
+
 /// The first of the sinks' refusals.
 fn first_refusal<D>(sinks: &[SinkSpec<D>]) -> Option<Refusal>
     ensures { SinksTell sinks.now result }
 {
     let mut rest = sinks;
     while let [sink, later @ ..] = rest {
-        match name_refusal(sink) {
+        match sink_refusal(sink) {
             Some(refusal) => return Some(refusal),
             None => rest = later,
         }
@@ -136,21 +152,21 @@ fn split<F: Drop, D: Drop>(
     Ok((rows, routings))
 }
 
-/// A sink over the files of such names in a folder.
-fn open_direct<D: Folder>(
+/// The files of such names in a folder.
+fn open_files<D: Folder>(
     alloc: Global,
     key: OutputKey,
     builder: Builder,
     folder: D,
     moment: Moment,
-) -> Result<RollingSink<D>, OpenStackError>
+) -> Result<RollingFileAppender<D>, OpenStackError>
     requires { is_moment moment ≡ true }
-    ensures opened { IfOk result (λ sink. OpensSink D.contents D.failed moment (SinkSpec.Direct builder folder) sink) }
+    ensures opened { IfOk result (λ appender. OpensFiles D.contents D.failed moment builder folder appender) }
     // A folder's refusal is told only where the folder told a fault.
-    ensures refused { IfErr result (λ told. SinkRefuses D.failed key told (SinkSpec.Direct builder folder)) }
+    ensures refused { IfErr result (λ told. FilesRefuse D.failed key told builder folder) }
 {
     match builder.build(alloc, folder, moment) {
-        Ok(appender) => Ok(RollingSink::new(appender)),
+        Ok(appender) => Ok(appender),
         Err(refused) => Err(OpenStackError::of_sink(key, refused.error)),
     }
 }
@@ -160,13 +176,24 @@ fn open_sink<D: Folder>(
     key: OutputKey,
     spec: SinkSpec<D>,
     moment: Moment,
-) -> Result<RollingSink<D>, OpenStackError>
+) -> Result<AnySink<D>, OpenStackError>
     requires { is_moment moment ≡ true }
     ensures opened { IfOk result (λ sink. OpensSink D.contents D.failed moment spec sink) }
     ensures refused { IfErr result (λ told. SinkRefuses D.failed key told spec) }
 {
-    let SinkSpec::Direct(builder, folder) = spec;
-    open_direct(alloc, key, builder, folder, moment)
+    match spec {
+        SinkSpec::Direct(builder, folder) => {
+            let appender = open_files(alloc, key, builder, folder, moment)?;
+            Ok(AnySink::Direct(RollingSink::new(appender)))
+        }
+        SinkSpec::Queued(builder, folder, limit, lossy) => {
+            let Ok(waiting) = Waiting::new(alloc, limit, lossy) else {
+                return Err(OpenStackError::at_output(key, Refusal::ZeroLimit));
+            };
+            let appender = open_files(alloc, key, builder, folder, moment)?;
+            Ok(AnySink::Queued(QueuedSink::new(waiting, appender)))
+        }
+    }
 }
 
 /// The sinks of an output, opened in order.
@@ -175,7 +202,7 @@ fn open_sinks<D: Folder>(
     key: OutputKey,
     specs: Vec<SinkSpec<D>>,
     moment: Moment,
-) -> Result<Vec<RollingSink<D>>, OpenStackError>
+) -> Result<Vec<AnySink<D>>, OpenStackError>
     requires { is_moment moment ≡ true }
     ensures opened { IfOk result (λ sinks. Pairs (OpensSink D.contents D.failed moment) specs.items sinks.items) }
     ensures refused { IfErr result (λ told. InOne (SinkRefuses D.failed key told) specs.items) }
@@ -195,7 +222,7 @@ fn open_routing<D: Folder>(
     alloc: Global,
     routing: Routing<D>,
     moment: Moment,
-) -> Result<RoutedSinks<RollingSink<D>>, OpenStackError>
+) -> Result<RoutedSinks<AnySink<D>>, OpenStackError>
     requires { is_moment moment ≡ true }
     ensures opened { IfOk result (λ routed. OpensRouting D.contents D.failed moment routing routed) }
     ensures refused { IfErr result (λ told. RoutingRefuses D.failed told routing) }
@@ -213,7 +240,7 @@ fn open_routings<D: Folder>(
     alloc: Global,
     routings: Vec<Routing<D>>,
     moment: Moment,
-) -> Result<Vec<RoutedSinks<RollingSink<D>>>, OpenStackError>
+) -> Result<Vec<RoutedSinks<AnySink<D>>>, OpenStackError>
     requires { is_moment moment ≡ true }
     ensures opened { IfOk result (λ opened. Pairs (OpensRouting D.contents D.failed moment) routings.items opened.items) }
     ensures refused { IfErr result (λ told. InOne (RoutingRefuses D.failed told) routings.items) }
@@ -240,7 +267,7 @@ fn rows_are_told<N: FormatFields + Drop, E: FormatEvent, F: Filter>()
 /// # Errors
 ///
 /// In this order: `BadMoment`; `NoOutput`, `TooManyFilters` where there are more than 64 outputs, `EqualKeys`; for the sinks in order
-/// `BadName`, `BadLinkName`, all before a folder is asked; then `FolderRefused` or `OutOfMemory` at the first sink that meets it. Out of
+/// `ZeroLimit`, `BadName`, `BadLinkName`, all before a folder is asked; then `FolderRefused` or `OutOfMemory` at the first sink that meets it. Out of
 /// memory may be told in place of any but `BadMoment`. What is told of one output comes with its key, and a folder's refusal with the
 /// fault. The outputs are let go: the folders of earlier sinks keep what was opened in them.
 pub fn open_stack<F: Filter, D: Folder>(
@@ -253,8 +280,8 @@ pub fn open_stack<F: Filter, D: Folder>(
     // At a moment in range, no output, more than 64 outputs, or two with one key are refused, with no key and no fault; out of memory
     // may be answered instead.
     ensures told { is_moment moment ≡ true → Answers (outputs_refusal outputs.items) result }
-    // Where each output's route is good, as `OutputSpec::new` makes it, a stack that is made has good names, and the first bad name
-    // is refused ahead of what a folder refuses; out of memory may be answered instead. A folder's refusal is told only where the folder
+    // Where each output's route is good, as `OutputSpec::new` makes it, the queues of a stack that is made have room and its files good
+    // names, and the first that hasn't is refused ahead of what a folder refuses; out of memory may be answered instead. A folder's refusal is told only where the folder
     // told a fault.
     ensures names { is_moment moment ≡ true → outputs_refusal outputs.items ≡ None → Every IsRouted outputs.items →
         NamesAnswer D.failed outputs.items result }
@@ -282,8 +309,8 @@ pub fn open_stack_with_threads<F: Filter, D: Folder>(
 ) -> Result<FileStack<F, D>, OpenStackError>
     ensures moment { is_moment moment ≡ false → result ≡ Err (of_all Refusal.BadMoment) }
     ensures told { is_moment moment ≡ true → Answers (outputs_refusal outputs.items) result }
-    // Where each output's route is good, as `OutputSpec::new` makes it, a stack that is made has good names, and the first bad name
-    // is refused ahead of what a folder refuses; out of memory may be answered instead. A folder's refusal is told only where the folder
+    // Where each output's route is good, as `OutputSpec::new` makes it, the queues of a stack that is made have room and its files good
+    // names, and the first that hasn't is refused ahead of what a folder refuses; out of memory may be answered instead. A folder's refusal is told only where the folder
     // told a fault.
     ensures names { is_moment moment ≡ true → outputs_refusal outputs.items ≡ None → Every IsRouted outputs.items →
         NamesAnswer D.failed outputs.items result }
@@ -296,7 +323,7 @@ pub fn open_stack_with_threads<F: Filter, D: Folder>(
     if !moment.is_in_range() {
         return Err(OpenStackError::of_all(Refusal::BadMoment));
     }
-    trace_starts::<Fields, Format<LineFormat, Timer>, F, RoutedSinks<RollingSink<D>>>();
+    trace_starts::<Fields, Format<LineFormat, Timer>, F, RoutedSinks<AnySink<D>>>();
     rows_are_told::<Fields, Format<LineFormat, Timer>, F>();
     let names = names_refusal(outputs.as_slice());
     let Ok((rows, routings)) = split(alloc, threads, outputs) else {

@@ -16,6 +16,9 @@ use tracing_appender_rolling::Builder;
 pub enum SinkSpec<D> {
     /// To files of such names in a folder, each line as it comes.
     Direct(Builder, D),
+    /// To such files, behind a queue for at most so many lines, from which steps of a worker write them. A line that the queue has no room
+    /// for is dropped and counted where the last part is true; else it is held beside the queue.
+    Queued(Builder, D, usize, bool),
 }
 
 /// What an output is to be: what it lets through, how its lines look, and which of its sinks take a line.

@@ -1,4 +1,5 @@
 //! Laws of lines that are taken one after another.
+ghost use Rattle.span_tracing_outputs.specs.sinks.AnySinks.{KindsStay};
 ghost use Rattle.span_tracing_outputs.specs.sinks.Fates.{CountsAreExact, DropsAreCounted, KeptLinesGoInTurn, LinesReachFiles, RunsAreTold};
 ghost use Rattle.span_tracing_outputs.specs.sinks.OutputRuns.{EachComposes};
 ghost use Rattle.span_tracing_outputs.specs.sinks.Routed.{RoutedTakeTheirs};
@@ -24,6 +25,13 @@ pub fn each_sink_has_its_run<N, E, F, S: LineSink>()
 #[tactic(auto, using(crate::proofs::sinks::RoutedLines::routed_take_theirs))]
 pub fn routed_sinks_take_theirs<S: LineSink>()
     ensures { RoutedTakeTheirs S.takes }
+{}
+
+/// A run of lines goes to a direct sink as its rolling file takes them, and to a queued one as its queue does: each line is queued, dropped,
+/// held or lost, or finds no memory, and nothing is written.
+#[tactic(auto, using(crate::proofs::sinks::SinkKinds::kinds_stay))]
+pub fn kinds_stay<D: Folder>()
+    ensures { KindsStay D.contents D.failed }
 {}
 
 /// Each line of a run has one fate. With these fates the count of dropped lines is exact, and all holds that an

@@ -1,12 +1,16 @@
 //! The sinks of an output, and the route by which lines go to them.
 ghost use Rattle.std.specs.Prelude.{◌≡◌, ◌∷◌, [], IfOk};
 ghost use Rattle.span_tracing_outputs.specs.sinks.Routed.{EachFrom, RoutingGives, TakesIf, TakesSent, goes_to};
+ghost use Rattle.span_tracing_outputs.specs.sinks.SinkCalls.{CallsRouted};
 
 use crate::LineSink;
 use crate::sink::copied;
+use crate::sinks::any_sink::AnySink;
 use event_formatter_text::Route;
+use span_tracing_skeleton::{QueueCall, Refusal, Reply};
 use std::alloc::{AllocError, Global};
 use std::marker::Model;
+use tracing_appender_rolling::Folder;
 use tracing_core_fields::Level;
 use tracing_core_moments::At;
 
@@ -168,6 +172,20 @@ impl<S: Drop> RoutedSinks<S> {
     {
         let RoutedSinks { route: _, sinks } = self;
         sinks
+    }
+}
+
+impl<D: Folder> RoutedSinks<AnySink<D>> {
+    /// Does this to the queue of the sink with this number among them, as [`AnySink::drive`]. Refused where there is no such sink
+    /// (`UnknownSink`).
+    pub fn drive(&mut self, number: usize, call: QueueCall) -> Reply
+        ensures { CallsRouted D.contents D.failed number call self.old result self.new }
+    {
+        if number < self.sinks.len() {
+            self.sinks[number].drive(call)
+        } else {
+            Reply::Refused(Refusal::UnknownSink)
+        }
     }
 }
 

@@ -53,7 +53,7 @@ fn bytes_are_literals(rt: HostRuntime) -> Result<(), Fail> {
         event!(trace, 0, MONDAY, served, body = b"\x01\xff"),
         Ok(())
     );
-    let sink = trace.sink(0, 0, 0).ok_or("a sink")?;
+    let sink = trace.sink(0).ok_or("a sink")?;
     let files = sink.appender().folder().files()?;
     let file = files.first().ok_or("a file")?;
     assert!(rt; file.bytes == b" INFO app: body=[01 ff]\n".as_slice());

@@ -35,7 +35,7 @@ fn a_lane_logs_apart(rt: HostRuntime) -> Result<(), Fail> {
         (0, " INFO app: begun\n INFO app: over\n"),
         (1, " INFO app: at work\n"),
     ] {
-        let sink = trace.sink(stack, 0, 0).ok_or("a sink")?;
+        let sink = trace.sink(stack).ok_or("a sink")?;
         let files = sink.appender().folder().files()?;
         let file = files.first().ok_or("a file")?;
         assert_eq!(rt; file.bytes, lines.as_bytes());

@@ -20,6 +20,17 @@ pub struct SinkLine {
     pub max_files: Option<usize>,
     /// The name of a link to the latest file.
     pub link: Option<String>,
+    /// The queue in front of the files, where there is one.
+    pub queue: Option<QueueLine>,
+}
+
+/// The queue in front of a sink's files.
+#[derive(Clone, Copy, Debug, Drop)]
+pub struct QueueLine {
+    /// How many lines it has room for.
+    pub limit: usize,
+    /// Whether a line that it has no room for is dropped, in place of held.
+    pub lossy: bool,
 }
 
 /// Where a sink's files lie.
@@ -39,19 +50,21 @@ pub(crate) fn sink_lines(alloc: Global, list: &[Json]) -> Result<Vec<SinkLine>, 
     Ok(sinks)
 }
 
-const SINK_KEYS: [&str; 6] = [
+const SINK_KEYS: [&str; 7] = [
     "folder",
     "rotation",
     "prefix",
     "suffix",
     "max_files",
     "link",
+    "queue",
 ];
 
 fn sink_line(alloc: Global, members: Members<'_>) -> Result<SinkLine, LineFault> {
     members.only(&SINK_KEYS)?;
     let rotation = rotation_named(members.text("rotation")?)?;
     let max_files = members.size_if_given("max_files")?;
+    let queue = queue_of(members)?;
     // what owns memory comes last, so that little has to be given back where a member can't be read
     Ok(SinkLine {
         folder: folder_of(alloc, Members::of(members.get("folder")?)?)?,
@@ -60,7 +73,21 @@ fn sink_line(alloc: Global, members: Members<'_>) -> Result<SinkLine, LineFault>
         suffix: members.text_if_given(alloc, "suffix")?,
         max_files,
         link: members.text_if_given(alloc, "link")?,
+        queue,
     })
+}
+
+/// The queue of a sink, where its line has one.
+fn queue_of(members: Members<'_>) -> Result<Option<QueueLine>, LineFault> {
+    let Some(value) = members.find("queue") else {
+        return Ok(None);
+    };
+    let queue = Members::of(value)?;
+    queue.only(&["limit", "lossy"])?;
+    Ok(Some(QueueLine {
+        limit: queue.size("limit")?,
+        lossy: queue.flag_or("lossy", true)?,
+    }))
 }
 
 /// Either kind of folder, and not both.

@@ -7,8 +7,8 @@ use crate::lines::decode::value::value_of;
 use crate::lines::fault::LineFault;
 use serde_json::Value as Json;
 use span_tracing_skeleton::{
-    DefaultCall, EnabledCall, EventCall, FollowsCall, NewSpanCall, Parent, ResetCall, Setting,
-    SettingCall, SpanCall, SpanMoments, SpanName, Step,
+    DefaultCall, EnabledCall, EventCall, FollowsCall, NewSpanCall, Parent, QueueCall, ResetCall,
+    Setting, SettingCall, SpanCall, SpanMoments, SpanName, Step,
 };
 use std::alloc::Global;
 use std::num::NonZeroU64;
@@ -24,6 +24,8 @@ pub enum StepLine {
     Record(RecordLine),
     /// An output's filter changes places with one of the shelf. The program keeps the shelf, so this is no `Step`.
     Swap(SwapLine),
+    /// Something is done to the queue of a sink, which is no `Step` either.
+    Queue(QueueStep),
 }
 
 /// An output whose filter changes places with one of the shelf.
@@ -32,6 +34,14 @@ pub struct SwapLine {
     pub output: usize,
     /// The filter's place on the shelf.
     pub shelf: usize,
+}
+
+/// Something that is done to the queue of a sink.
+#[derive(Clone, Copy, Drop)]
+pub struct QueueStep {
+    /// The number of the sink.
+    pub sink: usize,
+    pub call: QueueCall,
 }
 
 /// Values for a span.
@@ -60,6 +70,7 @@ pub(crate) fn step_line(
     match name {
         "record" => Ok(StepLine::Record(record_line(alloc, setup, members)?)),
         "swap_filter" => Ok(StepLine::Swap(swap_line(members)?)),
+        "work" | "admit" | "shutdown" => Ok(StepLine::Queue(queue_step(name, members)?)),
         _ => Ok(StepLine::Whole(whole_step(alloc, setup, name, members)?)),
     }
 }
@@ -93,6 +104,25 @@ fn hold_step(name: &str, members: Members<'_>) -> Result<Step, LineFault> {
         "release" => Ok(Step::Release(handle_of(members)?)),
         _ => Ok(Step::Set(setting_call(name, members)?)),
     }
+}
+
+/// A step that does something to the queue of a sink.
+fn queue_step(name: &str, members: Members<'_>) -> Result<QueueStep, LineFault> {
+    let call = if name == "work" {
+        members.only(&["do", "sink", "lines", "moment"])?;
+        QueueCall::Work(members.size("lines")?, members.moment()?)
+    } else {
+        members.only(&["do", "sink"])?;
+        if name == "admit" {
+            QueueCall::Admit
+        } else {
+            QueueCall::Shutdown
+        }
+    };
+    Ok(QueueStep {
+        sink: members.size("sink")?,
+        call,
+    })
 }
 
 /// A step that changes a setting of an output.

@@ -1,6 +1,7 @@
 use Rattle.std.proofs.Common.{None, Some, [], ◌∷◌, ap, subst, ◌∙◌}
 use Rattle.span_tracing_laws.specs.runs.KeptStacks.{StackStays}
 use Rattle.span_tracing_outputs.specs.OutputSettings.{outputs_in, stack_set}
+use Rattle.span_tracing_outputs.specs.sinks.SinkCalls.{sinks_in}
 use Rattle.span_tracing_laws.specs.runs.StepFollows.{registry_of}
 use Rattle.span_tracing_skeleton.specs.PlainData.{GlobalStep}
 use Rattle.span_tracing_steps.specs.States.{new_state}
@@ -10,14 +11,14 @@ use Rattle.span_tracing.proofs.opening.open_trace.Goals as goal
 pub unreachable-requires : goal.unreachable-requires
 unreachable-requires g c =
     c.in_default-set_global_default.not-Done
-    (opened _ outputs_in registry_of stack_set
+    (opened _ outputs_in sinks_in registry_of stack_set
     (record { name = None; number = 1 }) c.in_ok-stack.stack c.in-Ok-add_stack.handle c.new-trace.result c.thread.new.self
     c.add_stack.new.self c.set_global_default.result c.set_global_default.new.self c.new-trace.ensures c.in-Ok.ensures.ok
     c.in-Ok-add_stack.ensures.gives c.set_global_default.ensures.gives).done
 
 pub returns-clause-ready : goal.returns-clause-ready
 returns-clause-ready g c =
-    λ honest. (c.set_global_default.ensures.follows (c.setup_follows.ensures.added c.thread.new.self c.in_ok-stack.stack
+    λ honest. (c.set_global_default.ensures.follows (c.setup_follows.ensures.added sinks_in c.thread.new.self c.in_ok-stack.stack
     c.in-Ok-add_stack.handle c.add_stack.new.self
     (rw (c.in-Ok.ensures.ok, c.new-trace.ensures) (c.traces_start_ready.ensures.thread new_state _ c.traces_start_ready.ensures.new))
     (c.in_ok-stack.ensures.ready honest) c.in-Ok-add_stack.ensures.gives).0).1
@@ -28,16 +29,16 @@ returns-clause-opened g c =
       c.in_ok-stack.stack,
       c.in_ok-stack.ensures.opened,
       subst (StackStays (Some c.in_ok-stack.stack))
-          (same_stack _ outputs_in registry_of stack_set
+          (same_stack _ outputs_in sinks_in registry_of stack_set
           (record { name = None; number = 1 }) c.in_ok-stack.stack c.add_stack.new.self c.in-Ok-add_stack.handle
           c.set_global_default.result
           c.set_global_default.new.self
-          (opened _ outputs_in registry_of stack_set
+          (opened _ outputs_in sinks_in registry_of stack_set
           (record { name = None; number = 1 }) c.in_ok-stack.stack c.in-Ok-add_stack.handle c.new-trace.result
           c.thread.new.self c.add_stack.new.self c.set_global_default.result c.set_global_default.new.self c.new-trace.ensures
           c.in-Ok.ensures.ok c.in-Ok-add_stack.ensures.gives c.set_global_default.ensures.gives)
           c.thread.new.self.hub.next (ap (λ v. v.hub.next) c.in-Ok.ensures.ok ∙ ap (λ v. v.hub.next) c.new-trace.ensures))
-          (c.setup_follows.ensures.added c.thread.new.self c.in_ok-stack.stack c.in-Ok-add_stack.handle c.add_stack.new.self
+          (c.setup_follows.ensures.added sinks_in c.thread.new.self c.in_ok-stack.stack c.in-Ok-add_stack.handle c.add_stack.new.self
           (rw (c.in-Ok.ensures.ok, c.new-trace.ensures) (c.traces_start_ready.ensures.thread new_state _ c.traces_start_ready.ensures.new))
           (c.in_ok-stack.ensures.ready honest) c.in-Ok-add_stack.ensures.gives).1.stays,
     )
@@ -45,14 +46,14 @@ returns-clause-opened g c =
 pub returns-clause-bare : goal.returns-clause-bare
 returns-clause-bare g c =
     ap (λ v. v.hub.callsites)
-    (opened _ outputs_in registry_of stack_set
+    (opened _ outputs_in sinks_in registry_of stack_set
     (record { name = None; number = 1 }) c.in_ok-stack.stack c.in-Ok-add_stack.handle c.new-trace.result c.thread.new.self
     c.add_stack.new.self c.set_global_default.result c.set_global_default.new.self c.new-trace.ensures c.in-Ok.ensures.ok
     c.in-Ok-add_stack.ensures.gives c.set_global_default.ensures.gives).set
 
 pub returns-clause-reached : goal.returns-clause-reached
 returns-clause-reached g c =
-    let o = opened _ outputs_in registry_of stack_set
+    let o = opened _ outputs_in sinks_in registry_of stack_set
     (record { name = None; number = 1 }) c.in_ok-stack.stack c.in-Ok-add_stack.handle c.new-trace.result
     c.thread.new.self c.add_stack.new.self c.set_global_default.result c.set_global_default.new.self c.new-trace.ensures
     c.in-Ok.ensures.ok c.in-Ok-add_stack.ensures.gives c.set_global_default.ensures.gives in
@@ -61,14 +62,14 @@ returns-clause-reached g c =
 pub returns-clause-lane : goal.returns-clause-lane
 returns-clause-lane g c =
     ap (λ v. v.threads)
-    (opened _ outputs_in registry_of stack_set
+    (opened _ outputs_in sinks_in registry_of stack_set
     (record { name = None; number = 1 }) c.in_ok-stack.stack c.in-Ok-add_stack.handle c.new-trace.result c.thread.new.self
     c.add_stack.new.self c.set_global_default.result c.set_global_default.new.self c.new-trace.ensures c.in-Ok.ensures.ok
     c.in-Ok-add_stack.ensures.gives c.set_global_default.ensures.gives).set
 
 pub returns-clause-outputs : goal.returns-clause-outputs
 returns-clause-outputs g c =
-    (opened _ outputs_in registry_of stack_set
+    (opened _ outputs_in sinks_in registry_of stack_set
     (record { name = None; number = 1 }) c.in_ok-stack.stack c.in-Ok-add_stack.handle c.new-trace.result c.thread.new.self
     c.add_stack.new.self c.set_global_default.result c.set_global_default.new.self c.new-trace.ensures c.in-Ok.ensures.ok
     c.in-Ok-add_stack.ensures.gives c.set_global_default.ensures.gives).outputs
@@ -78,11 +79,11 @@ pub returns-clause-counted : goal.returns-clause-counted
 returns-clause-counted g c =
     λ honest. c.traces_stay_counted.ensures.stepped c.add_stack.new.self (GlobalStep c.in-Ok-add_stack.handle) c.set_global_default.result
     c.set_global_default.new.self
-    (c.setup_follows.ensures.added c.thread.new.self c.in_ok-stack.stack c.in-Ok-add_stack.handle c.add_stack.new.self
+    (c.setup_follows.ensures.added sinks_in c.thread.new.self c.in_ok-stack.stack c.in-Ok-add_stack.handle c.add_stack.new.self
     (rw (c.in-Ok.ensures.ok, c.new-trace.ensures) (c.traces_start_ready.ensures.thread new_state _ c.traces_start_ready.ensures.new))
     (c.in_ok-stack.ensures.ready honest) c.in-Ok-add_stack.ensures.gives).0
     c.set_global_default.ensures.gives
-    (c.traces_stay_counted.ensures.added c.thread.new.self c.in_ok-stack.stack c.in-Ok-add_stack.handle c.add_stack.new.self
+    (c.traces_stay_counted.ensures.added sinks_in c.thread.new.self c.in_ok-stack.stack c.in-Ok-add_stack.handle c.add_stack.new.self
     (rw (c.in-Ok.ensures.ok, c.new-trace.ensures) (c.traces_start_ready.ensures.thread new_state _ c.traces_start_ready.ensures.new))
     (c.in_ok-stack.ensures.ready honest) c.in-Ok-add_stack.ensures.gives
     (rw (c.in-Ok.ensures.ok, c.new-trace.ensures)

@@ -3,7 +3,9 @@ ghost use Rattle.std.specs.Prelude.{◌≡◌, None, true};
 ghost use Rattle.tracing_core_fields.specs.declared.requests.interest.InterestInner.TheVariants.{Sometimes};
 
 use span_registry_layers_store::{FilterMap, Registry};
-use span_tracing_skeleton::{HasOutputs, HasRegistry, Setting};
+use span_tracing_skeleton::{
+    HasOutputs, HasRegistry, HasSinks, QueueCall, Refusal, Reply, Setting,
+};
 use std::alloc::Global;
 use tracing_core_fields::{
     Attributes, CurrentSpan, DebugText, Event, Field, Id, Interest, LevelFilter, Metadata, Record,
@@ -108,6 +110,35 @@ impl HasOutputs for Keeper {
     }
 
     fn set(&mut self, _place: usize, _setting: Setting) {}
+}
+
+impl HasSinks for Keeper {
+    ghost use Rattle.std.specs.Prelude.{◌≡◌, refl, ap};
+    ghost use Rattle.span_tracing_skeleton.specs.declared.call.Reply.TheVariants.{Refused};
+    ghost use Rattle.span_tracing_skeleton.specs.declared.refusal.Refusal.TheVariants.{UnknownSink};
+
+    ghost sinks_in = { λ x. 0 };
+
+    ghost drives = { λ x number call reply y. (reply ≡ Refused UnknownSink) × (y ≡ x) };
+
+    ghost spans_stay = { λ x number call reply y goes. ap (λ k. k.registry) goes.1 };
+
+    ghost word_stays = { λ x number call reply y goes k. (
+      tt,
+      record {
+        onward = λ m j n. n;
+        back = λ m j n. n;
+        same_hint = refl;
+      },
+    ) };
+
+    fn sink_count(&self) -> usize {
+        0
+    }
+
+    fn drive(&mut self, _number: usize, _call: QueueCall) -> Reply {
+        Reply::Refused(Refusal::UnknownSink)
+    }
 }
 
 impl Subscriber for Keeper {

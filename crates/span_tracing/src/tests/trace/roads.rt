@@ -12,7 +12,7 @@ use crate::tests::trace::stage::{
 use crate::{Fields, Trace};
 use event_formatter::LineFormat;
 use span_registry_layers::{Context, Filter, SpanCall as HeardCall, Stack};
-use span_tracing_outputs::{RollingSink, RoutedSinks, TraceStack};
+use span_tracing_outputs::{AnySink, RoutedSinks, TraceStack};
 use span_tracing_skeleton::{
     DefaultCall, EnabledCall, EventCall, NewSpanCall, Parent, Reply, ResetCall, Setting,
     SettingCall, SpanCall, SpanMoments, SpanName, Step,
@@ -74,7 +74,7 @@ impl Filter for Counting {
     fn hear(&mut self, _call: &HeardCall<'_, '_, '_, '_>, _context: &Context<'_>) {}
 }
 
-type Counted = TraceStack<Fields, Shape, Counting, RoutedSinks<RollingSink<MemoryFolder>>>;
+type Counted = TraceStack<Fields, Shape, Counting, RoutedSinks<AnySink<MemoryFolder>>>;
 
 /// A trace with one lane, one output under a filter that counts, and a callsite of events.
 fn counted_trace(rt: &impl Abort, alloc: Global) -> Result<Trace<Counted>, Fail> {
@@ -134,7 +134,7 @@ fn asked_in(
         trace.run(steps)?
     };
     assert!(rt; replies.len() == steps.len() && replies.iter().all(|it| *it == Reply::Done));
-    let sink = trace.sink(0, 0, 0).ok_or("a sink")?;
+    let sink = trace.sink(0).ok_or("a sink")?;
     assert!(rt;
         sink.appender()
             .folder()
@@ -266,9 +266,9 @@ fn has_same_files(
     let mut bytes = 0;
     for stack in 0..3 {
         for output in 0..2 {
-            let sink = one.sink(stack, output, 0).ok_or("a sink")?;
+            let sink = one.sink(2 * stack + output).ok_or("a sink")?;
             let files = sink.appender().folder().files()?;
-            let sink = other.sink(stack, output, 0).ok_or("a sink")?;
+            let sink = other.sink(2 * stack + output).ok_or("a sink")?;
             let others = sink.appender().folder().files()?;
             assert_eq!(rt; files.len(), others.len());
             for (file, same) in files.iter().zip(others.iter()) {

@@ -51,8 +51,8 @@ fn a_lanes_default_goes_before_the_global_one(rt: HostRuntime) -> Result<(), Fai
     let line =
         "{\"timestamp\":\"fake time\",\"level\":\"WARN\",\"fields\":{\"message\":\"second\"},\"target\":\"app\"}\n";
     has_file_of(&rt, &trace, (1, 1), "json.2025-02-17", line)?;
-    assert!(rt; trace.sink(1, 2, 0).is_none());
-    assert!(rt; trace.sink(2, 0, 0).is_none() && trace.stack(2).is_none());
+    assert!(rt; trace.sink(4).is_none());
+    assert!(rt; trace.stack(2).is_none());
     Ok(())
 }
 

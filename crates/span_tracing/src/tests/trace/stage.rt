@@ -4,7 +4,7 @@ use crate::Trace;
 use crate::tests::common::{MONDAY, Shape, event_at, output_in, span_at};
 use event_formatter::{Fields, Json, LineFormat};
 use span_registry_layers::Stack;
-use span_tracing_outputs::{RollingSink, RoutedSinks, TraceStack};
+use span_tracing_outputs::{AnySink, RollingSink, RoutedSinks, TraceStack};
 use span_tracing_skeleton::{Refusal, Reply, SpanName};
 use std::alloc::Global;
 use std::num::NonZeroU64;
@@ -27,19 +27,19 @@ pub(crate) type Written = TraceStack<
     Fields,
     Shape,
     LevelFilter,
-    RoutedSinks<RollingSink<MemoryFolder>>,
+    RoutedSinks<AnySink<MemoryFolder>>,
 >;
 
 /// A sink over a file for each day, in a folder of its own.
 pub(crate) fn sink_of(
     alloc: Global,
     prefix: &str,
-) -> Result<RoutedSinks<RollingSink<MemoryFolder>>, Fail> {
+) -> Result<RoutedSinks<AnySink<MemoryFolder>>, Fail> {
     let folder = MemoryFolder::new(alloc);
     let appender = RollingFileAppender::new(alloc, Rotation::DAILY, folder, prefix, MONDAY).map_err(
         |refusal| refusal.error,
     )?;
-    Ok(RoutedSinks::single(alloc, RollingSink::new(appender))?)
+    Ok(RoutedSinks::single(alloc, AnySink::Direct(RollingSink::new(appender)))?)
 }
 
 /// Full lines from DEBUG on go to `lines`, and JSON from WARN on to `json`.
@@ -134,8 +134,8 @@ pub(crate) fn has_file_of(
     name: &str,
     text: &str,
 ) -> Result<(), Fail> {
-    let sink = trace.sink(stack, output, 0).ok_or("a sink")?;
-    assert_eq!(rt; sink.dropped(), 0);
+    let sink = trace.sink(2 * stack + output).ok_or("a sink")?;
+    assert_eq!(rt; sink.missed(), 0);
     for entry in &sink.appender().folder().files()? {
         if entry.name == name {
             let shown = str::from_utf8(entry.bytes).ok().unwrap_or("not UTF-8");

@@ -1,5 +1,8 @@
-use Rattle.std.proofs.Common.{◌∷◌, ◌++◌, [], sym, subst}
-use Rattle.std.specs.Vec.Iter.{into_iter_items}
+use Rattle.std.proofs.lemmas.Iterator.Adapters.{YieldsList-from_vec}
+use Rattle.std.proofs.lemmas.Iterator.Consumers.{YieldsList-end}
+use Rattle.std.proofs.lemmas.List.{map-id}
+use Rattle.std.proofs.Common.{◌≡◌, ◌∙◌, arith, length, ◌∷◌, ◌++◌, [], sym, subst}
+use Rattle.std.specs.Vec.Iter.{into_iter_items, into_iter_len}
 use Rattle.span_tracing_skeleton.specs.declared.refusal.Refusal.TheVariants.{OutOfMemory}
 use Rattle.span_tracing_outputs.specs.files.OpenedStack.{OpensSink, Pairs}
 use Rattle.span_tracing_outputs.specs.files.OpenRefusals.{InOne, SinkRefuses, at_output}
@@ -35,3 +38,14 @@ returns-in_default-clause-refused g c =
     c.loop-spec.spec-iterator)
     c.in-Some.spec (into_iter_items c.next.new.self) c.in-Some.ensures.steps.0 (memory_refuses g.D.Folder.failed c.args.key
     c.in-Some.spec)))
+
+pub returns-clause-opened : goal.returns-clause-opened
+returns-clause-opened g c =
+    let told = c.into_iter-spec-iterator.ensures.into_iter_gives.1 in
+    let many : into_iter_len c.into_iter-spec-iterator.result ≡ length c.args.specs.items = omega (arith, told) in
+    let start = YieldsList-from_vec {s = c.into_iter-spec-iterator.result} c.args.specs.items
+    c.into_iter-spec-iterator.ensures.into_iter_gives.0 many in
+    let all = YieldsList-end start c.loop-spec.yielded c.loop-spec.spec-iterator c.loop-spec.yielded_by c.next.result c.next.new.self
+    c.in-None.is c.next.ensures.steps in
+    subst (λ xs. Pairs (OpensSink g.D.Folder.contents g.D.Folder.failed c.args.moment) xs c.loop-spec.sinks.items)
+    (sym (map-id c.loop-spec.yielded) ∙ all.0) c.loop-spec.invariant.opened

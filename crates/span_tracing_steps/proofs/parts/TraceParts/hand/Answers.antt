@@ -1,4 +1,3 @@
-use Rattle.std.proofs.Common.{refl}
 use Rattle.span_tracing_steps.specs.States.{value_in}
 use Rattle.span_tracing_steps.proofs.UnrefusedRequests.{event_given}
 use Rattle.span_tracing_steps.proofs.parts.TraceParts.hand.Goals as goal

@@ -1,6 +1,5 @@
 use Rattle.std.proofs.Common.{sym, ap, ◌∙◌}
-use Rattle.std.specs.Option.{option_copied, option_map}
-use Rattle.tracing_core.specs.HandleSubscribers.{living_of}
+use Rattle.std.specs.Option.{option_copied}
 use Rattle.span_tracing_steps.specs.States.{value_in}
 use Rattle.span_tracing_steps.proofs.Stacks.{leading, reach_none, reach_some}
 use Rattle.span_tracing_steps.proofs.parts.TraceParts.reach.Goals as goal

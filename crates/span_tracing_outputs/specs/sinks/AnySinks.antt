@@ -1,0 +1,130 @@
+-- A sink, direct or queued, and calls on its queue.
+use Rattle.std.specs.Prelude.{◌≡◌, ◌≤◌, ℕ, Bool, true, false, List, length, map, Option, Some, Result, Ok, Err}
+use Rattle.tracing_core_moments.specs.declared.at.At.{At}
+use Rattle.tracing_core_moments.specs.declared.moment.Moment.{Moment}
+use Rattle.tracing_core_moments.specs.Moments.{is_moment}
+use Rattle.tracing_appender_rolling.specs.Builders.{builder_names}
+use Rattle.tracing_appender_rolling.specs.folders.Contents.{Contents}
+use Rattle.tracing_appender_rolling.specs.Looks.{Held}
+use Rattle.tracing_appender_rolling.specs.Appenders.{Holds}
+use Rattle.tracing_appender_rolling.specs.PrunedSinks.{PrunedSink, AgreesSink}
+use Rattle.tracing_appender_queue.specs.Queue.{after_mark}
+use Rattle.tracing_appender_queue.specs.declared.state.MarkError.{MarkError}
+use Rattle.tracing_appender_queue.specs.declared.state.MarkError.TheVariants as mark
+use Rattle.tracing_appender_queue.specs.declared.worker.step.Batched.{Batched}
+use Rattle.tracing_appender_queue.specs.worker.Batches.{lines_in}
+use Rattle.tracing_appender_queue.specs.worker.Steps.{LinesAnywhere}
+use Rattle.tracing_appender_queue.specs.declared.queued.fate.Fate.{Fate}
+use Rattle.tracing_appender_queue.specs.declared.queued.fate.AdmitError.{AdmitError}
+use Rattle.tracing_appender_queue.specs.declared.queued.fate.AdmitError.TheVariants as admit
+use Rattle.tracing_appender_queue.specs.declared.queued.queued_sink.QueuedSink.{QueuedSink}
+use Rattle.tracing_appender_queue.specs.queued.LineFates.{SettlesAll, SettlesLine}
+use Rattle.tracing_appender_queue.specs.queued.HeldLines.{Admits, worked}
+use Rattle.tracing_appender_queue.specs.queued.QueuedWork.{LinesLeft, WorksFrom}
+use Rattle.span_tracing_skeleton.specs.declared.call.Reply.{Reply}
+use Rattle.span_tracing_skeleton.specs.declared.call.Reply.TheVariants.{Done, Refused, Worked}
+use Rattle.span_tracing_skeleton.specs.declared.queue_call.QueueCall.{QueueCall}
+use Rattle.span_tracing_skeleton.specs.declared.queue_call.QueueCall.TheVariants.{Work, Admit, Shutdown}
+use Rattle.span_tracing_skeleton.specs.declared.refusal.Refusal.TheVariants.{BadMoment, Closed, MarkSent, NoRoom, NotQueued, NothingHeld, OutOfMemory}
+use Rattle.span_tracing_outputs.specs.OutputMachines.{PlainLine}
+use Rattle.span_tracing_outputs.specs.sinks.Runs.{TakesRun}
+use Rattle.span_tracing_outputs.specs.sinks.Takes.{TakesLine}
+use Rattle.span_tracing_outputs.specs.declared.sinks.sink.RollingSink.{RollingSink}
+use Rattle.tracing_appender_rolling.specs.declared.appender.RollingFileAppender.{RollingFileAppender}
+use Rattle.span_tracing_outputs.specs.declared.sinks.any_sink.AnySink.{AnySink}
+use Rattle.span_tracing_outputs.specs.declared.sinks.any_sink.AnySink.TheVariants.{Direct, Queued}
+
+-- a line came to the queue, and nothing was written
+pub record TakesQueued {D : Type 0} (old : QueuedSink D) (line : List ℕ) (new : QueuedSink D) : Type 0 where
+  pub fate : Fate
+  pub settled : SettlesLine old.waiting line fate new.waiting
+  pub files : new.appender ≡ old.appender
+
+-- the mark was put, or refused
+abbrev pub Shuts : {D : Type 0} → QueuedSink D → Result (Unit {0}) MarkError → QueuedSink D → Type 0
+Shuts old (Ok done) new =
+    (new.waiting ≡ record old.waiting { queue = after_mark old.waiting.queue }) × (old.waiting.queue.sent ≡ false)
+Shuts old (Err mark.MarkSent) new = (new.waiting ≡ old.waiting) × (old.waiting.queue.sent ≡ true)
+Shuts old (Err mark.NoRoom) new = (new.waiting ≡ old.waiting) × (old.waiting.queue.sent ≡ false) ×
+    (old.waiting.queue.limit ≤ length old.waiting.queue.queued)
+
+abbrev pub admit_reply : Result (Unit {0}) AdmitError → Reply
+admit_reply (Ok done) = Done
+admit_reply (Err admit.NothingHeld) = Refused NothingHeld
+admit_reply (Err admit.Closed) = Refused Closed
+admit_reply (Err admit.NoRoom) = Refused NoRoom
+admit_reply (Err admit.OutOfMemory) = Refused OutOfMemory
+
+abbrev pub shutdown_reply : Result (Unit {0}) MarkError → Reply
+shutdown_reply (Ok done) = Done
+shutdown_reply (Err mark.MarkSent) = Refused MarkSent
+shutdown_reply (Err mark.NoRoom) = Refused NoRoom
+
+module _ {D : Type 0} (contents : D → Option Contents) (failed : D → ℕ) where
+  -- a line is written as it comes, or comes to the queue
+  abbrev pub TakesAny : AnySink D → At → PlainLine → AnySink D → Type 0
+  TakesAny (Direct old) at line (Direct new) = TakesLine contents failed old at line new
+  TakesAny (Direct old) at line (Queued new) = ⊥
+  TakesAny (Queued old) at line (Queued new) = TakesQueued old line.bytes new
+  TakesAny (Queued old) at line (Direct new) = ⊥
+
+  -- A step of a worker took so many lines. These are the first of the queue; the files were handed them at the moment, in order.
+  pub record WorksQueued (lines : ℕ) (m : Moment) (old : QueuedSink D) (batched : Batched) (new : QueuedSink D) : Type 0 where
+    pub waiting : new.waiting ≡ worked lines batched.missed old.waiting
+    pub taken : batched.taken ≡ length (lines_in lines old.waiting.queue)
+    pub names : builder_names new.appender.builder ≡ builder_names old.appender.builder
+    -- over a folder of known contents, whatever it refuses
+    pub files : (h : Held) → Holds contents old.appender h → WorksFrom contents lines m h batched old new
+    -- where each line found memory, and the folder's contents are known: which bytes stand in which file
+    pub left : batched.missed ≡ 0 → (c : Contents) (p : PrunedSink) → contents old.appender.folder ≡ Some c →
+        AgreesSink contents old.appender p →
+        LinesLeft contents (lines_in lines old.waiting.queue) m c p old.appender new.appender
+    -- over any folder
+    pub anywhere : LinesAnywhere failed m (lines_in lines old.waiting.queue) batched.missed old.appender new.appender
+
+  abbrev pub WorksIf : Bool → ℕ → Moment → QueuedSink D → Reply → QueuedSink D → Type 0
+  WorksIf true lines m old reply new = (batched : Batched) × WorksQueued lines m old batched new × (reply ≡ Worked batched.taken)
+  WorksIf false lines m old reply new = (reply ≡ Refused BadMoment) × (new ≡ old)
+
+  -- what a call on the queue is answered, and what it leaves
+  abbrev pub CallsQueue : QueueCall → QueuedSink D → Reply → QueuedSink D → Type 0
+  CallsQueue (Work lines m) old reply new = WorksIf (is_moment m) lines m old reply new
+  CallsQueue Admit old reply new = (result : Result (Unit {0}) AdmitError) × Admits old.waiting result new.waiting ×
+      (new.appender ≡ old.appender) × (reply ≡ admit_reply result)
+  CallsQueue Shutdown old reply new = (result : Result (Unit {0}) MarkError) × Shuts old result new ×
+      (new.appender ≡ old.appender) × (reply ≡ shutdown_reply result)
+
+  -- a direct sink refuses each call
+  abbrev pub CallsAny : AnySink D → QueueCall → Reply → AnySink D → Type 0
+  CallsAny (Direct old) call reply new = (reply ≡ Refused NotQueued) × (new ≡ Direct old)
+  CallsAny (Queued old) call reply (Queued new) = CallsQueue call old reply new
+  CallsAny (Queued old) call reply (Direct new) = ⊥
+
+-- how many lines found no memory at a sink
+abbrev pub missed_by : {D : Type 0} → AnySink D → ℕ
+missed_by (Direct sink) = sink.dropped
+missed_by (Queued sink) = sink.waiting.missed
+
+-- the rolling file of a sink
+abbrev pub appender_of : {D : Type 0} → AnySink D → RollingFileAppender D
+appender_of (Direct sink) = sink.appender
+appender_of (Queued sink) = sink.appender
+
+abbrev pub bytes_in : List (At × PlainLine) → List (List ℕ)
+bytes_in lines = map (λ (x : At × PlainLine). x.1.bytes) lines
+
+-- lines came to a queue one after another, and nothing was written
+pub record SettlesRun {D : Type 0} (lines : List (At × PlainLine)) (old new : QueuedSink D) : Type 0 where
+  pub fates : List Fate
+  pub settled : SettlesAll old.waiting (bytes_in lines) fates new.waiting
+  pub files : new.appender ≡ old.appender
+
+module _ {D : Type 0} (contents : D → Option Contents) (failed : D → ℕ) where
+  -- what a run of lines leaves of a sink of each kind
+  pub record KindsStay : Type 0 where
+    pub direct : (lines : List (At × PlainLine)) (old : RollingSink D) (new : AnySink D) →
+        TakesRun (TakesAny contents failed) lines (Direct old) new →
+        (made : RollingSink D) × (new ≡ Direct made) × TakesRun (TakesLine contents failed) lines old made
+    pub queued : (lines : List (At × PlainLine)) (old : QueuedSink D) (new : AnySink D) →
+        TakesRun (TakesAny contents failed) lines (Queued old) new →
+        (made : QueuedSink D) × (new ≡ Queued made) × SettlesRun lines old made

@@ -1,0 +1,108 @@
+//! The sinks of a stack's outputs, numbered through all outputs.
+ghost use Rattle.std.specs.Prelude.{◌≡◌};
+ghost use Rattle.std.specs.Option.{option_copied};
+ghost use Rattle.span_tracing_outputs.specs.sinks.SinkCalls.{CallsIn, CallsStack, sink_in, sink_place, sinks_in, sinks_of};
+
+use crate::sinks::{AnySink, RoutedSinks};
+use crate::trace_stack::TraceStack;
+use event_formatter::FormatEvent;
+use event_formatter_text::FormatFields;
+use span_registry_layers_layers::Filter;
+use span_tracing_skeleton::{HasSinks, QueueCall, Refusal, Reply};
+use tracing_appender_rolling::Folder;
+
+// How many sinks outputs have.
+fn count_in<S: Drop>(outputs: &[RoutedSinks<S>]) -> usize
+    ensures { result ≡ sinks_of outputs.now }
+{
+    match outputs {
+        [] => 0,
+        [first, later @ ..] => count_in(later).saturating_add(first.sinks().len()),
+    }
+}
+
+/// Where a sink stands.
+#[derive(Clone, Copy, Debug, PartialEq, Eq)]
+pub(crate) struct SinkPlace {
+    /// The place of its output.
+    output: usize,
+    /// Its number among the output's sinks.
+    sink: usize,
+}
+
+// Where the sink with a number stands.
+fn place_in<S: Drop>(outputs: &[RoutedSinks<S>], number: usize) -> Option<SinkPlace>
+    ensures { result ≡ sink_place outputs.now 0 number }
+{
+    let mut sink = number;
+    for (output, routed) in outputs.iter().enumerate() {
+        let count = routed.sinks().len();
+        if sink < count {
+            return Some(SinkPlace { output, sink });
+        }
+        sink -= count;
+    }
+    None
+}
+
+// The sink with a number.
+fn sink_in<S: Drop>(outputs: &[RoutedSinks<S>], number: usize) -> Option<&S>
+    ensures { option_copied result ≡ sink_in outputs.now number }
+{
+    match place_in(outputs, number) {
+        None => None,
+        Some(at) => match outputs.get(at.output) {
+            None => None,
+            Some(routed) => routed.sinks().get(at.sink),
+        },
+    }
+}
+
+// Does this to the queue of the sink with a number.
+fn drive_in<D: Folder>(
+    outputs: &mut [RoutedSinks<AnySink<D>>],
+    number: usize,
+    call: QueueCall,
+) -> Reply
+    ensures { CallsIn D.contents D.failed number call outputs.old result outputs.new }
+{
+    let Some(at) = place_in(outputs, number) else {
+        return Reply::Refused(Refusal::UnknownSink);
+    };
+    if at.output < outputs.len() {
+        outputs[at.output].drive(at.sink, call)
+    } else {
+        Reply::Refused(Refusal::UnknownSink)
+    }
+}
+
+impl<N, E, F, S: Drop> TraceStack<N, E, F, RoutedSinks<S>> {
+    /// The sink with a number: sinks are numbered from 0 through all outputs, in order.
+    pub fn sink(&self, number: usize) -> Option<&S>
+        ensures { option_copied result ≡ sink_in self.now.sinks number }
+    {
+        sink_in(self.sinks.as_slice(), number)
+    }
+}
+
+impl<N: FormatFields + Drop, E: FormatEvent, F: Filter, D: Folder> HasSinks
+    for TraceStack<N, E, F, RoutedSinks<AnySink<D>>> {
+    ghost use Rattle.std.proofs.Common.{ap};
+    ghost use Rattle.span_tracing_outputs.specs.OutputSettings.{same_word};
+
+    ghost sinks_in = { λ x. sinks_in x };
+
+    ghost drives = { λ x number call reply y. CallsStack D.contents D.failed x number call reply y };
+
+    ghost spans_stay = { λ x number call reply y goes. ap (λ s. s.registry) goes.0 };
+
+    ghost word_stays = { λ x number call reply y goes k. same_word ⟦<F as Filter>⟧ x y goes.0 k };
+
+    fn sink_count(&self) -> usize {
+        count_in(self.sinks.as_slice())
+    }
+
+    fn drive(&mut self, number: usize, call: QueueCall) -> Reply {
+        drive_in(self.sinks.as_mut_slice(), number, call)
+    }
+}

@@ -1,0 +1,123 @@
+//! A sink, direct or queued.
+ghost use Rattle.std.specs.Prelude.{◌≡◌};
+ghost use Rattle.tracing_core_moments.specs.Moments.{is_moment};
+ghost use Rattle.span_tracing_skeleton.specs.declared.queue_call.QueueCall.TheVariants.{Admit, Shutdown};
+ghost use Rattle.span_tracing_outputs.specs.sinks.AnySinks.{CallsAny, CallsQueue, WorksIf, admit_reply, appender_of};
+ghost use Rattle.span_tracing_outputs.specs.sinks.AnySinks.{missed_by, shutdown_reply};
+
+use crate::LineSink;
+use crate::sinks::sink::RollingSink;
+use span_tracing_skeleton::{QueueCall, Refusal, Reply};
+use tracing_appender_queue::{AdmitError, MarkError, QueuedSink};
+use tracing_appender_rolling::{Folder, RollingFileAppender};
+use tracing_core_fields::Level;
+use tracing_core_moments::{At, Moment};
+
+/// A sink that writes lines as they come, or one whose lines wait in a queue.
+#[derive(Drop)]
+pub enum AnySink<D> {
+    /// Lines are written as they come.
+    Direct(RollingSink<D>),
+    /// Lines wait in a queue until a step of a worker writes them.
+    Queued(QueuedSink<D>),
+}
+
+fn admit_reply(answer: Result<(), AdmitError>) -> Reply
+    ensures { result ≡ admit_reply answer }
+{
+    match answer {
+        Ok(()) => Reply::Done,
+        Err(AdmitError::NothingHeld) => Reply::Refused(Refusal::NothingHeld),
+        Err(AdmitError::Closed) => Reply::Refused(Refusal::Closed),
+        Err(AdmitError::NoRoom) => Reply::Refused(Refusal::NoRoom),
+        Err(AdmitError::OutOfMemory) => Reply::Refused(Refusal::OutOfMemory),
+    }
+}
+
+fn shutdown_reply(answer: Result<(), MarkError>) -> Reply
+    ensures { result ≡ shutdown_reply answer }
+{
+    match answer {
+        Ok(()) => Reply::Done,
+        Err(MarkError::MarkSent) => Reply::Refused(Refusal::MarkSent),
+        Err(MarkError::NoRoom) => Reply::Refused(Refusal::NoRoom),
+    }
+}
+
+// A step of a worker.
+fn work<D: Folder>(sink: &mut QueuedSink<D>, lines: usize, moment: Moment) -> Reply
+    ensures { WorksIf D.contents D.failed (is_moment moment) lines moment sink.old result sink.new }
+{
+    if !moment.is_in_range() {
+        return Reply::Refused(Refusal::BadMoment);
+    }
+    let batched = sink.work(lines, moment);
+    Reply::Worked(batched.taken)
+}
+
+fn admit<D: Folder>(sink: &mut QueuedSink<D>) -> Reply
+    ensures { CallsQueue D.contents D.failed Admit sink.old result sink.new }
+{
+    admit_reply(sink.admit())
+}
+
+fn shutdown<D: Folder>(sink: &mut QueuedSink<D>) -> Reply
+    ensures { CallsQueue D.contents D.failed Shutdown sink.old result sink.new }
+{
+    shutdown_reply(sink.shutdown())
+}
+
+impl<D: Folder> AnySink<D> {
+    /// Does this to its queue. A direct sink refuses it (`NotQueued`).
+    ///
+    /// A step of a worker is refused at a moment out of range (`BadMoment`); else it answers how many lines it took. The first held line is
+    /// refused where none is held (`NothingHeld`), where the queue is closed (`Closed`; the line is given up then), where it has no room
+    /// (`NoRoom`), and where there is no memory. The mark is refused where it was put before (`MarkSent`) or finds no room (`NoRoom`).
+    pub fn drive(&mut self, call: QueueCall) -> Reply
+        ensures { CallsAny D.contents D.failed self.old call result self.new }
+    {
+        match self {
+            AnySink::Direct(_) => Reply::Refused(Refusal::NotQueued),
+            AnySink::Queued(sink) => match call {
+                QueueCall::Work(lines, moment) => work(sink, lines, moment),
+                QueueCall::Admit => admit(sink),
+                QueueCall::Shutdown => shutdown(sink),
+            },
+        }
+    }
+
+    /// How many lines found no memory at it. The count stops at the greatest number.
+    pub fn missed(&self) -> usize
+        ensures { result ≡ missed_by self.now }
+    {
+        match self {
+            AnySink::Direct(sink) => sink.dropped(),
+            AnySink::Queued(sink) => sink.missed(),
+        }
+    }
+
+    /// The rolling file that its lines go to.
+    pub fn appender(&self) -> &RollingFileAppender<D>
+        ensures { result.now ≡ appender_of self.now }
+    {
+        match self {
+            AnySink::Direct(sink) => sink.appender(),
+            AnySink::Queued(sink) => sink.appender(),
+        }
+    }
+}
+
+impl<D: Folder> LineSink for AnySink<D> {
+    ghost use Rattle.span_tracing_outputs.specs.sinks.AnySinks.{TakesAny};
+
+    ghost takes = { TakesAny D.contents D.failed };
+
+    fn take(&mut self, at: At, level: Level, line: &[u8]) {
+        match self {
+            AnySink::Direct(sink) => sink.take(at, level, line),
+            AnySink::Queued(sink) => {
+                let _fate = sink.settle_line(line);
+            }
+        }
+    }
+}

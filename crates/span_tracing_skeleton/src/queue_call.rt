@@ -1,0 +1,14 @@
+//! What is done to the queue of a sink.
+
+use tracing_core_moments::Moment;
+
+/// What is done to the queue of a sink.
+#[derive(Clone, Copy, Debug, PartialEq, Eq)]
+pub enum QueueCall {
+    /// A step of a worker: the first so many queued lines, or all before the mark, go to the files at the moment.
+    Work(usize, Moment),
+    /// The first held line is offered to the queue.
+    Admit,
+    /// The mark that closes the queue is put behind the lines that are queued now.
+    Shutdown,
+}
