@@ -157,7 +157,8 @@ fn unreadable_sinks(rt: HostRuntime) -> Result<(), Fail> {
         r#"{"folder":{"memory":"A"},"rotation":"daily","max_files":-1}"#,
         r#"{"folder":{"memory":"A"},"rotation":"daily","max_files":null}"#,
         r#"{"folder":{"memory":"A"},"rotation":"daily","link":true}"#,
-        r#"{"folder":{"memory":"A"},"rotation":"daily","queue":{"limit":1}}"#,
+        r#"{"folder":{"memory":"A"},"rotation":"daily","queue":{"lossy":true}}"#,
+        r#"{"folder":{"memory":"A"},"rotation":"daily","queue":[1,true]}"#,
         r#"{"folder":{"memory":"A"},"rotation":"daily"},{}"#,
     ] {
         expect_unreadable(&rt, alloc, "0", sink)?;

@@ -9,7 +9,7 @@ use std::rt::Files;
 use std::test::Fail;
 
 /// Whole lines.
-const LINES: [&str; 58] = [
+const LINES: [&str; 67] = [
     "",
     " ",
     "null",
@@ -35,7 +35,16 @@ const LINES: [&str; 58] = [
     r#"{"do":"record","lane":0,"moment":[0,0],"span":[0,1],"values":[[0,1]]}"#,
     r#"{"do":"record","lane":0,"moment":[0,0],"span":[0,1],"callsite":1,"values":[]}"#,
     r#"{"do":"swap_filter","lane":0,"moment":[0,0],"span":[0,1]}"#,
-    r#"{"do":"work","moment":[0,0],"sink":0,"lines":9}"#,
+    r#"{"do":"work","moment":[0,0],"sink":0}"#,
+    r#"{"do":"work","moment":[0,0],"lines":9}"#,
+    r#"{"do":"work","sink":0,"lines":9}"#,
+    r#"{"do":"work","moment":[0,0],"sink":0,"lines":-1}"#,
+    r#"{"do":"work","moment":[0,0],"sink":0,"lines":9,"lane":0}"#,
+    r#"{"do":"admit"}"#,
+    r#"{"do":"admit","sink":null}"#,
+    r#"{"do":"admit","sink":0,"moment":[0,0]}"#,
+    r#"{"do":"shutdown","sink":-1}"#,
+    r#"{"do":"shutdown","sink":0,"lines":9}"#,
     r#"{"do":"set_default","lane":0}"#,
     r#"{"do":"set_default","handle":0}"#,
     r#"{"do":"set_default","lane":null,"handle":0}"#,
@@ -71,7 +80,7 @@ const LINES: [&str; 58] = [
 ];
 
 /// What replaces a part of a line that is readable.
-const STACK_EDITS: [(&str, &str); 43] = [
+const STACK_EDITS: [(&str, &str); 48] = [
     (r#","outputs""#, r#","more":1,"outputs""#),
     (r#""moment":[1739786460,0],"#, ""),
     ("[1739786460,0]", "null"),
@@ -114,9 +123,20 @@ const STACK_EDITS: [(&str, &str); 43] = [
     (r#""rotation":"daily","#, ""),
     (r#""prefix":"my_prefix""#, r#""prefix":null"#),
     (r#""suffix":"log""#, r#""suffix":"log","max_files":-1"#),
+    (r#""suffix":"log""#, r#""suffix":"log","queue":null"#),
+    (r#""suffix":"log""#, r#""suffix":"log","queue":1"#),
+    (r#""suffix":"log""#, r#""suffix":"log","queue":{}"#),
     (
         r#""suffix":"log""#,
-        r#""suffix":"log","queue":{"limit":1,"lossy":true}"#,
+        r#""suffix":"log","queue":{"limit":-1}"#,
+    ),
+    (
+        r#""suffix":"log""#,
+        r#""suffix":"log","queue":{"limit":1,"lossy":0}"#,
+    ),
+    (
+        r#""suffix":"log""#,
+        r#""suffix":"log","queue":{"limit":1,"kind":"lossy"}"#,
     ),
 ];
 
