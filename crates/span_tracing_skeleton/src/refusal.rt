@@ -4,7 +4,7 @@ ghost use Rattle.std.specs.Prelude.{◌≡◌};
 
 use thiserror::Error;
 
-/// A refusal of a call. It leaves the trace as it was.
+/// A refusal of a call. It leaves the trace as it was, but that with `Closed` a held line is given up.
 #[derive(Clone, Copy, Debug, PartialEq, Eq, Error)]
 pub enum Refusal {
     #[error("the callsite isn't registered, or is of the other kind")]
