@@ -8,8 +8,7 @@ mod tests;
 
 pub use decode::{
     CallsiteLine, FolderLine, FormatName, LaneLine, Line, NamedValue, OutputLine, QueueLine,
-    QueueStep, RecordLine, Setup, SinkLine, SpanEvent, StackLine, StepLine, SwapLine, TimeLine,
-    decode_line,
+    RecordLine, Setup, SinkLine, SpanEvent, StackLine, StepLine, SwapLine, TimeLine, decode_line,
 };
 pub use fault::LineFault;
 pub use print::{PrintFault, write_files, write_replies};

@@ -1,8 +1,8 @@
 //! The steps of a script, run on a trace.
 
-use crate::lines::{CallsiteLine, NamedValue, QueueStep, RecordLine, StepLine, SwapLine};
+use crate::lines::{CallsiteLine, NamedValue, RecordLine, StepLine, SwapLine};
 use crate::stack::LogStack;
-use span_tracing::{FieldValue, QueueCall, RecordCall, Refusal, Reply, SpanName, Step, Trace};
+use span_tracing::{FieldValue, RecordCall, Refusal, Reply, SpanName, Step, Trace};
 use std::alloc::{AllocError, Global};
 use std::rt::Files;
 use tracing_core::LevelFilter;
@@ -56,8 +56,8 @@ impl Replies {
     }
 }
 
-/// Runs the steps in order. Before a record those so far are run, since their replies tell the callsite of its span, and so before a swap
-/// and before what is done to a queue, which are no steps of a run.
+/// Runs the steps in order. Before a record those so far are run, since their replies tell the callsite of its span, and so before a swap,
+/// which is no step of a run.
 pub(crate) fn run_steps<X: Files + AllocGlobal + Clone + Drop>(
     alloc: Global,
     trace: &mut Trace<LogStack<X>>,
@@ -79,26 +79,10 @@ pub(crate) fn run_steps<X: Files + AllocGlobal + Clone + Drop>(
                 told.run(trace, &mut steps)?;
                 told.replies.push(swapped(trace, shelf, swap))?;
             }
-            StepLine::Queue(step) => {
-                told.run(trace, &mut steps)?;
-                told.replies.push(driven(trace, step))?;
-            }
         }
     }
     told.run(trace, &mut steps)?;
     Ok(told.replies)
-}
-
-/// Does something to the queue of a sink.
-fn driven<X: Files + AllocGlobal + Clone + Drop>(
-    trace: &mut Trace<LogStack<X>>,
-    step: QueueStep,
-) -> Reply {
-    match step.call {
-        QueueCall::Work(lines, moment) => trace.work(step.sink, lines, moment),
-        QueueCall::Admit => trace.admit(step.sink),
-        QueueCall::Shutdown => trace.shutdown(step.sink),
-    }
 }
 
 /// Lets the filter of an output and one of the shelf change places.
@@ -109,6 +93,7 @@ fn swapped<X: Files + AllocGlobal + Clone + Drop>(
 ) -> Reply {
     match shelf.get_mut(swap.shelf) {
         Some(filter) => trace.swap_filter(swap.output, filter),
+        None if trace.is_busy() => Reply::Refused(Refusal::Busy),
         None => {
             let refusal = trace.output_refusal(swap.output);
             Reply::Refused(refusal.unwrap_or(Refusal::UnknownShelf))

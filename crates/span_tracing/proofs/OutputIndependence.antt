@@ -26,7 +26,7 @@ use Rattle.span_tracing_skeleton.specs.Skeleton.{Skeleton, Answers, Unasked, Wan
 use Rattle.span_tracing_skeleton.specs.declared.call.SpanName.{SpanName}
 use Rattle.span_tracing_skeleton.specs.declared.setting.Setting.{Setting}
 use Rattle.span_tracing_skeleton.specs.declared.refusal.Refusal.{Refusal}
-use Rattle.span_tracing_laws.specs.runs.Runs.{Plain, StepWithMask, Went, Starved, lines_left, lines_of, none_for, outs_left, plain_after}
+use Rattle.span_tracing_laws.specs.runs.Runs.{Plain, StepWithMask, Went, Drove, Starved, Waited, lines_left, lines_of, none_for, outs_left, plain_after}
 use Rattle.span_tracing_laws.specs.runs.Runs.{plain_run, turn_lines}
 use Rattle.span_tracing_laws.specs.runs.StepSettings.{OutputSetting, outs_with, setting_of}
 use Rattle.span_tracing_laws.specs.runs.StepNotices.{Told, event_told_by, span_told_by, values_told_by, told_by, told_of, told_to}
@@ -295,8 +295,20 @@ module _ {N : Type 0} (n : Ghosts N) (stack place : ℕ) where
       (subst (λ an. TurnsAlike p (record { skeleton = p.skeleton; outs = q.outs }) (Went step a fates) (Went step an others)) same_answers
       (went p.skeleton p.outs q.outs step a fates others alike.out fated)))
   turn_alike p q (Went step a fates) (Starved other) alike w = absurd w
+  turn_alike p q (Went step a fates) (Waited other) alike w = absurd w
+  turn_alike p q (Went step a fates) (Drove other reply) alike w = absurd w
   turn_alike p q (Starved step) (Went other b others) alike w = absurd w
+  turn_alike p q (Starved step) (Waited other) alike w = absurd w
+  turn_alike p q (Starved step) (Drove other reply) alike w = absurd w
+  turn_alike p q (Waited step) (Went other b others) alike w = absurd w
+  turn_alike p q (Waited step) (Starved other) alike w = absurd w
+  turn_alike p q (Waited step) (Drove other reply) alike w = absurd w
+  turn_alike p q (Drove ask answer) (Went other b others) alike w = absurd w
+  turn_alike p q (Drove ask answer) (Starved other) alike w = absurd w
+  turn_alike p q (Drove ask answer) (Waited other) alike w = absurd w
   turn_alike p q (Starved step) (Starved other) alike w = (alike, none_alike n place (p.outs stack) (q.outs stack) [] [] alike.out)
+  turn_alike p q (Waited step) (Waited other) alike w = (alike, none_alike n place (p.outs stack) (q.outs stack) [] [] alike.out)
+  turn_alike p q (Drove ask answer) (Drove other reply) alike w = (alike, none_alike n place (p.outs stack) (q.outs stack) [] [] alike.out)
 
   alone : (p q : Plain N) (ts us : List StepWithMask) → AreAlikeAt stack place p q → AllGoAlikeAt n stack place p ts us →
       AreAlikeAt stack place (plain_run n p ts) (plain_run n q us) ×

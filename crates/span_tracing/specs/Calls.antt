@@ -8,31 +8,30 @@ use Rattle.event_formatter_text.specs.declared.format_fields.FormatFields.{Ghost
 use Rattle.event_formatter_text.specs.declared.settings.Settings.{Settings}
 use Rattle.event_formatter.specs.formats.Contexts.{PlainContext}
 use Rattle.tracing_appender_rolling.specs.folders.Contents.{Contents}
-use Rattle.span_tracing_outputs.specs.OutputSettings.{stack_set}
 use Rattle.span_tracing_outputs.specs.TraceStacks.{TraceStackValue}
 use Rattle.span_tracing_outputs.specs.Turns.{Lines}
 use Rattle.span_tracing_outputs.specs.sinks.Routed.{Routed}
 use Rattle.span_tracing_outputs.specs.declared.sinks.any_sink.AnySink.{AnySink}
-use Rattle.span_tracing_skeleton.specs.PlainData.{PlainStep}
+use Rattle.span_tracing_skeleton.specs.PlainData.{AnyStep}
 use Rattle.span_tracing_skeleton.specs.declared.call.Reply.{Reply}
-use Rattle.span_tracing_steps.specs.Steps.{StepGives}
+use Rattle.span_tracing_steps.specs.Runs.{Caching, Road}
 use Rattle.span_tracing_laws.specs.runs.Files.{FileTrace}
-use Rattle.span_tracing_laws.specs.runs.StepFollows.{registry_of}
-use Rattle.span_tracing_laws.specs.runs.Runs.{Caching, Road, RunGives}
-use Rattle.span_tracing.specs.Ready.{RunsReady}
+use Rattle.span_tracing.specs.Ready.{FileRunGives, FileStepGives, RunsReady}
 
-module _ {N E F D : Type 0} (sg : SubscriberGhosts (TraceStackValue N E F (Routed (AnySink D)))) where
+module _ {N E F D : Type 0} (contents : D → Option Contents) (failed : D → ℕ)
+    (sg : SubscriberGhosts (TraceStackValue N E F (Routed (AnySink D)))) where
   -- a call is a run of one step, and a run with one that begins where it ended is one run
   pub record CallsMakeRuns : Type 0 where
-    pub call : (v : FileTrace N E F D) (step : PlainStep) (reply : Reply) (w : FileTrace N E F D) →
-        StepGives sg registry_of stack_set v step reply w → RunGives sg Caching v (step ∷ []) (reply ∷ []) w
-    pub joined : (road : Road) (v : FileTrace N E F D) (steps : List PlainStep) (replies : List Reply) (mid : FileTrace N E F D)
-        (more : List PlainStep) (later : List Reply) (w : FileTrace N E F D) → RunGives sg road v steps replies mid →
-        RunGives sg road mid more later w → RunGives sg road v (steps ++ more) (replies ++ later) w
+    pub call : (v : FileTrace N E F D) (step : AnyStep) (reply : Reply) (w : FileTrace N E F D) →
+        FileStepGives contents failed sg v step reply w → FileRunGives contents failed sg Caching v (step ∷ []) (reply ∷ []) w
+    pub joined : (road : Road) (v : FileTrace N E F D) (steps : List AnyStep) (replies : List Reply) (mid : FileTrace N E F D)
+        (more : List AnyStep) (later : List Reply) (w : FileTrace N E F D) → FileRunGives contents failed sg road v steps replies mid →
+        FileRunGives contents failed sg road mid more later w →
+        FileRunGives contents failed sg road v (steps ++ more) (replies ++ later) w
 
   -- what becomes of replies, sinks and files in a run, however its steps were called
-  abbrev pub EachRunIsReady : (D → Option Contents) → (D → ℕ) → Ghosts N → (E → Settings → PlainContext → PlainEvent → Option (List ℕ)) →
-      FilterGhosts F → LayerGhosts (Lines N E) → Type 0
-  EachRunIsReady contents failed n line_of g h = (road : Road) (v : FileTrace N E F D) (steps : List PlainStep)
-      (replies : List Reply) (w : FileTrace N E F D) → RunGives sg road v steps replies w →
+  abbrev pub EachRunIsReady : Ghosts N → (E → Settings → PlainContext → PlainEvent → Option (List ℕ)) → FilterGhosts F →
+      LayerGhosts (Lines N E) → Type 0
+  EachRunIsReady n line_of g h = (road : Road) (v : FileTrace N E F D) (steps : List AnyStep)
+      (replies : List Reply) (w : FileTrace N E F D) → FileRunGives contents failed sg road v steps replies w →
       RunsReady contents failed n line_of g h road v steps replies w

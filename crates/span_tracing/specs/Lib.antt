@@ -2,7 +2,6 @@ pub mod Setup
 pub mod SpanMoments
 pub mod OpenedTrace
 pub mod Ready
-pub mod Queues
 pub mod Roads
 pub mod OutputReaders
 pub mod Calls
@@ -23,6 +22,7 @@ pub use Rattle.span_tracing_skeleton.specs.declared.call_error.CallError
 pub use Rattle.span_tracing_skeleton.specs.declared.refusal.Refusal
 pub use Rattle.span_tracing_skeleton.specs.declared.setting.OutputPlace
 pub use Rattle.span_tracing_skeleton.specs.declared.setting.Setting
+pub use Rattle.span_tracing_steps.specs.AnySteps
 pub use Rattle.span_tracing_steps.specs.Asking
 pub use Rattle.span_tracing_steps.specs.InterestPreservation
 pub use Rattle.span_tracing_steps.specs.Interests
@@ -50,12 +50,16 @@ pub use Rattle.span_tracing_outputs.specs.files.Threads
 pub use Rattle.span_tracing_outputs.specs.sinks.Fates
 pub use Rattle.span_tracing_outputs.specs.sinks.LinesInFiles
 pub use Rattle.span_tracing_outputs.specs.sinks.OutputRuns
+pub use Rattle.span_tracing_outputs.specs.sinks.QueueFiles
 pub use Rattle.span_tracing_outputs.specs.sinks.Routed
 pub use Rattle.span_tracing_outputs.specs.sinks.Runs as SinkRuns
+pub use Rattle.span_tracing_outputs.specs.sinks.SinkTurns
 pub use Rattle.span_tracing_outputs.specs.sinks.Takes
 pub use Rattle.span_tracing_outputs.specs.declared.files.output_spec.OutputSpec
 pub use Rattle.span_tracing_outputs.specs.declared.sinks.sink.RollingSink
 pub use Rattle.span_tracing_laws.specs.json_runs.JsonRuns
+pub use Rattle.span_tracing_laws.specs.runs.AnySteps as AnyStepLaws
+pub use Rattle.span_tracing_laws.specs.runs.DrivenSinks
 pub use Rattle.span_tracing_laws.specs.runs.Files
 pub use Rattle.span_tracing_laws.specs.runs.KeptStacks
 pub use Rattle.span_tracing_laws.specs.runs.Laws

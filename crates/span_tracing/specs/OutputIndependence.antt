@@ -4,7 +4,7 @@ use Rattle.std.specs.Prelude.{◌≡◌, ℕ, zero, suc, List, [], ◌∷◌, Op
 use Rattle.event_formatter_text.specs.declared.format_fields.FormatFields.{Ghosts}
 use Rattle.span_tracing_skeleton.specs.Skeleton.{Skeleton}
 use Rattle.span_tracing_outputs.specs.OutputFolds.{Fates, first_of, rest_of}
-use Rattle.span_tracing_laws.specs.runs.Runs.{Plain, StepWithMask, Went, Starved, lines_of, plain_after, plain_run}
+use Rattle.span_tracing_laws.specs.runs.Runs.{Drove, Plain, StepWithMask, Starved, Waited, Went, lines_of, plain_after, plain_run}
 use Rattle.span_tracing_laws.specs.runs.StepNotices.{Told, told_of, told_to}
 
 -- of lists for each output, that of the output at a place; nothing where there is none
@@ -27,9 +27,10 @@ FatedAlikeAt place (Some told) fates others = list_at fates place ≡ list_at ot
 abbrev pub GoAlikeAt : Type 0 → Skeleton → ℕ → ℕ → StepWithMask → StepWithMask → Type 0
 GoAlikeAt N s stack place (Went step a fates) (Went other b others) =
     (step ≡ other) × (a ≡ b) × FatedAlikeAt place (told_to N stack (told_of N s step a)) fates others
-GoAlikeAt N s stack place (Went step a fates) (Starved other) = ⊥
-GoAlikeAt N s stack place (Starved step) (Went other b others) = ⊥
 GoAlikeAt N s stack place (Starved step) (Starved other) = step ≡ other
+GoAlikeAt N s stack place (Waited step) (Waited other) = step ≡ other
+GoAlikeAt N s stack place (Drove ask answer) (Drove other reply) = ask ≡ other
+GoAlikeAt N s stack place t u = ⊥
 
 module _ {N : Type 0} (n : Ghosts N) where
   abbrev pub AllGoAlikeAt : ℕ → ℕ → Plain N → List StepWithMask → List StepWithMask → Type 0

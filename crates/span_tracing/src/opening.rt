@@ -14,11 +14,11 @@ use crate::laws::traces_start_ready;
 use crate::trace::Trace;
 use event_formatter::{Fields, Format, LineFormat, Timer};
 use span_registry_layers_layers::Filter;
-use span_tracing_laws::{setup_follows, traces_stay_counted};
+use span_tracing_laws::{plain_steps_follow, setup_follows, traces_stay_counted};
 use span_tracing_outputs::{
     AnySink, FileStack, Lines, OpenStackError, OutputSpec, RoutedSinks, open_stack,
 };
-use span_tracing_skeleton::{Refusal, Reply};
+use span_tracing_skeleton::{Refusal, Reply, Step};
 use std::alloc::Global;
 use tracing_appender_rolling::Folder;
 use tracing_core_moments::Moment;
@@ -66,7 +66,8 @@ pub fn open_trace<F: Filter, D: Folder>(
 {
     setup_follows::<Fields, Format<LineFormat, Timer>, F, RoutedSinks<AnySink<D>>>();
     traces_start_ready::<Fields, Format<LineFormat, Timer>, F, RoutedSinks<AnySink<D>>>();
-    traces_stay_counted::<Fields, Format<LineFormat, Timer>, F, RoutedSinks<AnySink<D>>>();
+    plain_steps_follow::<Fields, Format<LineFormat, Timer>, F, RoutedSinks<AnySink<D>>>();
+    traces_stay_counted::<Fields, Format<LineFormat, Timer>, F, D>();
     let stack = open_stack(alloc, outputs, moment)?;
     let mut trace = Trace::new(alloc);
     let Ok(_lane) = trace.thread(None, 1) else {
@@ -75,7 +76,8 @@ pub fn open_trace<F: Filter, D: Folder>(
     let Ok(handle) = trace.add_stack(stack) else {
         return Err(OpenStackError::from(Refusal::OutOfMemory));
     };
-    match trace.set_global_default(handle) {
+    // No line is held yet, so the step needn't wait.
+    match trace.act(&Step::SetGlobalDefault(handle)) {
         Reply::Done => Ok(trace),
         // It is the first default, of a stack that is there.
         _ => unreachable!(),

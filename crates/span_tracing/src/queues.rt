@@ -1,15 +1,17 @@
 //! Queues of sinks, step by step.
-ghost use Rattle.span_tracing.specs.Queues.{IsDriven};
+ghost use Rattle.span_tracing.specs.Ready.{IsStep};
+ghost use Rattle.span_tracing_skeleton.specs.PlainData.{OfQueue};
 ghost use Rattle.span_tracing_skeleton.specs.declared.queue_call.QueueCall.TheVariants.{Admit, Shutdown, Work};
 
 use crate::trace::Trace;
 use event_formatter::{FormatEvent, Layer};
 use event_formatter_text::FormatFields;
 use span_registry_layers_layers::Filter;
-use span_tracing_laws::drives_follow;
+use span_tracing_laws::steps_follow;
 use span_tracing_outputs::{AnySink, PendingLines, RoutedSinks, TraceStack};
 use span_tracing_skeleton::{QueueCall, Reply};
 use tracing_appender_rolling::Folder;
+use tracing_core_fields::Subscriber;
 use tracing_core_moments::Moment;
 
 impl<N: FormatFields + Drop, E: FormatEvent, F: Filter, D: Folder> Trace<
@@ -21,10 +23,11 @@ impl<N: FormatFields + Drop, E: FormatEvent, F: Filter, D: Folder> Trace<
     ///
     /// Refused where there is no such sink (`UnknownSink`), where it has no queue (`NotQueued`), and at a moment out of range (`BadMoment`).
     pub fn work(&mut self, sink: usize, lines: usize, moment: Moment) -> Reply
-        ensures { IsDriven D.contents D.failed ⟦<N as FormatFields>⟧ E.line_of ⟦<F as Filter>⟧
-            ⟦<Layer<N, E, PendingLines> as span_registry_layers_layers::Layer>⟧ self.old sink (Work lines moment) result self.new }
+        ensures { IsStep D.contents D.failed ⟦<TraceStack<N, E, F, RoutedSinks<AnySink<D>>> as Subscriber>⟧ ⟦<N as FormatFields>⟧ E.line_of
+            ⟦<F as Filter>⟧ ⟦<Layer<N, E, PendingLines> as span_registry_layers_layers::Layer>⟧ self.old
+            (OfQueue (record { sink = sink; call = Work lines moment })) result self.new }
     {
-        drives_follow::<N, E, F, D>();
+        steps_follow::<N, E, F, D>();
         self.parts.drive(sink, QueueCall::Work(lines, moment))
     }
 
@@ -33,10 +36,11 @@ impl<N: FormatFields + Drop, E: FormatEvent, F: Filter, D: Folder> Trace<
     /// Refused where there is no such sink (`UnknownSink`), where it has no queue (`NotQueued`), where no line is held (`NothingHeld`), where
     /// the queue is closed (`Closed`; the line is given up then), where it has no room (`NoRoom`), and where there is no memory.
     pub fn admit(&mut self, sink: usize) -> Reply
-        ensures { IsDriven D.contents D.failed ⟦<N as FormatFields>⟧ E.line_of ⟦<F as Filter>⟧
-            ⟦<Layer<N, E, PendingLines> as span_registry_layers_layers::Layer>⟧ self.old sink Admit result self.new }
+        ensures { IsStep D.contents D.failed ⟦<TraceStack<N, E, F, RoutedSinks<AnySink<D>>> as Subscriber>⟧ ⟦<N as FormatFields>⟧ E.line_of
+            ⟦<F as Filter>⟧ ⟦<Layer<N, E, PendingLines> as span_registry_layers_layers::Layer>⟧ self.old
+            (OfQueue (record { sink = sink; call = Admit })) result self.new }
     {
-        drives_follow::<N, E, F, D>();
+        steps_follow::<N, E, F, D>();
         self.parts.drive(sink, QueueCall::Admit)
     }
 
@@ -46,10 +50,11 @@ impl<N: FormatFields + Drop, E: FormatEvent, F: Filter, D: Folder> Trace<
     /// Refused where there is no such sink (`UnknownSink`), where it has no queue (`NotQueued`), where the mark was put before (`MarkSent`),
     /// and where the queue has no room for it (`NoRoom`).
     pub fn shutdown(&mut self, sink: usize) -> Reply
-        ensures { IsDriven D.contents D.failed ⟦<N as FormatFields>⟧ E.line_of ⟦<F as Filter>⟧
-            ⟦<Layer<N, E, PendingLines> as span_registry_layers_layers::Layer>⟧ self.old sink Shutdown result self.new }
+        ensures { IsStep D.contents D.failed ⟦<TraceStack<N, E, F, RoutedSinks<AnySink<D>>> as Subscriber>⟧ ⟦<N as FormatFields>⟧ E.line_of
+            ⟦<F as Filter>⟧ ⟦<Layer<N, E, PendingLines> as span_registry_layers_layers::Layer>⟧ self.old
+            (OfQueue (record { sink = sink; call = Shutdown })) result self.new }
     {
-        drives_follow::<N, E, F, D>();
+        steps_follow::<N, E, F, D>();
         self.parts.drive(sink, QueueCall::Shutdown)
     }
 }

@@ -1,12 +1,19 @@
 //! A trace, and its setup.
-ghost use Rattle.std.specs.Prelude.{◌≡◌, IfOk, OnErr, OnOk, length, slice_get, string_bytes};
+ghost use Rattle.std.specs.Prelude.{◌≡◌, IfOk, OnErr, OnOk, false, length, slice_get, string_bytes, true};
 ghost use Rattle.std.specs.Option.{option_copied, option_map};
 ghost use Rattle.tracing_core_fields.specs.Metadata.{plain_metadata};
 ghost use Rattle.span_tracing_laws.specs.runs.Laws.{AskedFollows, SwapFollows};
+ghost use Rattle.span_tracing_laws.specs.runs.DrivenSinks.{holds};
 ghost use Rattle.span_tracing_laws.specs.runs.StepFollows.{TraceIsReady, registry_of};
 ghost use Rattle.span_tracing_outputs.specs.OutputFilters.{StackSwap};
+ghost use Rattle.span_tracing_outputs.specs.sinks.AnySinks.{TakesAny};
+ghost use Rattle.span_tracing_outputs.specs.sinks.Routed.{TakesRouted};
+ghost use Rattle.span_tracing_outputs.specs.sinks.SinkCalls.{outputs_hold};
 ghost use Rattle.span_tracing_skeleton.specs.Looking.{inner, output_in};
 ghost use Rattle.span_tracing_skeleton.specs.Refusing.{output_refusal};
+ghost use Rattle.span_tracing_skeleton.specs.declared.call.Reply.TheVariants as Reply;
+ghost use Rattle.span_tracing_skeleton.specs.declared.refusal.Refusal.TheVariants.{Busy};
+ghost use Rattle.span_tracing_steps.specs.AnySteps.{holds_in};
 ghost use Rattle.span_tracing_steps.specs.Asking.{AsksAnew};
 ghost use Rattle.span_tracing_steps.specs.FilterSwaps.{SwapGives};
 ghost use Rattle.span_tracing_steps.specs.Setup.{AddGives, RegisterGives, own_at, with_thread, without_retired};
@@ -16,11 +23,12 @@ use event_formatter::{FormatEvent, Layer};
 use event_formatter_text::FormatFields;
 use span_registry_layers_layers::Filter;
 use span_tracing_laws::setup_follows;
-use span_tracing_outputs::{LineSink, PendingLines, TraceStack};
+use span_tracing_outputs::{AnySink, LineSink, PendingLines, RoutedSinks, TraceStack};
 use span_tracing_skeleton::{HasOutputs, HasRegistry, HasSinks, OutputPlace, Refusal, Reply};
 use span_tracing_steps::TraceParts;
 use std::alloc::{AllocError, Global};
 use std::marker::Model;
+use tracing_appender_rolling::Folder;
 use tracing_core_fields::{Identifier, Interest, Metadata, Subscriber};
 
 /// Takes calls of events and spans and answers replies, over stacks of the type `T`: each is a
@@ -161,27 +169,39 @@ impl<T: Subscriber + HasRegistry> Trace<T> {
     }
 }
 
-impl<N: FormatFields + Drop, E: FormatEvent, F: Filter, S: LineSink> Trace<TraceStack<N, E, F, S>> {
+impl<N: FormatFields + Drop, E: FormatEvent, F: Filter, D: Folder> Trace<
+    TraceStack<N, E, F, RoutedSinks<AnySink<D>>>,
+> {
     /// Lets the filter of an output and this one change places. From the next step on the new filter decides which events and new spans the
     /// output is told of. A span that is open stays passed or refused as the filter had it that stood when it was made. Outputs are numbered
-    /// from 0 through all stacks, in the order in which they were added. Refused as [`output_refusal`](Trace::output_refusal) says. It needs
-    /// no memory; where there is none, answers that are kept of callsites are left out. `tracing-subscriber` has its `reload` for this.
+    /// from 0 through all stacks, in the order in which they were added. Refused while a line is held (`Busy`), and as
+    /// [`output_refusal`](Trace::output_refusal) says. It needs no memory; where there is none, answers that are kept of callsites are left out.
+    /// `tracing-subscriber` has its `reload` for this.
     pub fn swap_filter(&mut self, output: usize, filter: &mut F) -> Reply
-        // A refused call changes nothing. Else the filters change places, the stack and maybe others are asked anew, what is kept of
-        // callsites and the greatest level are formed anew, and all else stays.
-        ensures gives { SwapGives ⟦<TraceStack<N, E, F, S> as Subscriber>⟧ registry_of
+        // While a line is held, it is refused and changes nothing.
+        ensures busy { holds_in (holds outputs_hold) self.old ≡ true →
+            (result ≡ Reply.Refused Busy) × (self.new ≡ self.old) × (filter.new ≡ filter.old) }
+        // Else a refused call changes nothing. One that isn't refused lets the filters change places, the stack and maybe others are asked
+        // anew, what is kept of callsites and the greatest level are formed anew, and all else stays.
+        ensures gives { holds_in (holds outputs_hold) self.old ≡ false →
+            SwapGives ⟦<TraceStack<N, E, F, RoutedSinks<AnySink<D>>> as Subscriber>⟧ registry_of
             (λ x place f y b. StackSwap ⟦<F as Filter>⟧ x place f y b) self.old output filter.old result self.new filter.new }
-        // A ready trace stays ready where the filter is honest. Its skeleton is the same, its stacks are but for that filter and what filters
-        // and outputs were last told, and outputs agree with the machines that they agreed with.
-        ensures follows { TraceIsReady ⟦<F as Filter>⟧ ⟦<Layer<N, E, PendingLines> as span_registry_layers_layers::Layer>⟧ self.old →
-            F.honest filter.old → SwapFollows ⟦<N as FormatFields>⟧ E.line_of ⟦<F as Filter>⟧ S.takes
-            ⟦<Layer<N, E, PendingLines> as span_registry_layers_layers::Layer>⟧ ⟦<TraceStack<N, E, F, S> as Subscriber>⟧
+        // A ready trace stays ready then where the filter is honest. Its skeleton is the same, its stacks are but for that filter and what
+        // filters and outputs were last told, and outputs agree with the machines that they agreed with.
+        ensures follows { holds_in (holds outputs_hold) self.old ≡ false → TraceIsReady ⟦<F as Filter>⟧ ⟦<Layer<N, E, PendingLines> as span_registry_layers_layers::Layer>⟧ self.old →
+            F.honest filter.old → SwapFollows ⟦<N as FormatFields>⟧ E.line_of ⟦<F as Filter>⟧ (TakesRouted (TakesAny D.contents D.failed))
+            ⟦<Layer<N, E, PendingLines> as span_registry_layers_layers::Layer>⟧ ⟦<TraceStack<N, E, F, RoutedSinks<AnySink<D>>> as Subscriber>⟧
             self.old output filter.old self.new }
     {
-        setup_follows::<N, E, F, S>();
+        setup_follows::<N, E, F, RoutedSinks<AnySink<D>>>();
+        if self.parts.is_busy() {
+            return Reply::Refused(Refusal::Busy);
+        }
         self.parts.swap_filter(output, filter)
     }
+}
 
+impl<N: FormatFields + Drop, E: FormatEvent, F: Filter, S: LineSink> Trace<TraceStack<N, E, F, S>> {
     /// Asks all filters anew of each callsite and for their greatest levels, and keeps what they say. An honest filter answers as it did
     /// before, and setup calls ask on their own, so it is wanted only where a filter changes its answers by itself. Of such a filter little
     /// is promised.

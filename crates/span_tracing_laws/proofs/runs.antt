@@ -8,9 +8,11 @@ pub mod RequestSteps
 pub mod SpanSteps
 pub mod HolderSteps
 pub mod StepFollows
+pub mod DrivenSinks
+pub mod AnySteps
 pub mod Runs
+pub mod SinkLines
 pub mod Files
 pub mod SetupCalls
-pub mod DrivenSinks
 pub mod SkippedCallsites
 pub mod CountedTraces

@@ -4,6 +4,7 @@ pub mod SwappedOutputs
 pub mod StepFollows
 pub mod KeptStacks
 pub mod DrivenSinks
+pub mod AnySteps
 pub mod Runs
 pub mod Laws
 pub mod Files

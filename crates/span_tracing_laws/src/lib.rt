@@ -10,6 +10,6 @@ pub use json::{
 };
 pub use json_runs::{json_files_hold_objects, json_format_files_hold_objects, json_outputs_run};
 pub use runs::{
-    drives_follow, files_follow, runs_follow, setup_follows, skipping_misses_nothing, steps_follow,
-    traces_stay_counted,
+    files_follow, plain_steps_follow, runs_follow, setup_follows, skipping_misses_nothing,
+    steps_follow, traces_stay_counted,
 };

@@ -1,3 +1,4 @@
+pub mod ListPlaces
 pub mod CalledSinks
 pub mod Slotless
 pub mod KeptSpans

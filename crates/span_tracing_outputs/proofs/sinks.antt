@@ -5,3 +5,5 @@ pub mod DroppedLines
 pub mod Fates
 pub mod LinesInFiles
 pub mod RoutedLines
+pub mod SinkTurns
+pub mod QueueFiles

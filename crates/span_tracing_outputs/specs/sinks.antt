@@ -6,3 +6,5 @@ pub mod OutputRuns
 pub mod Fates
 pub mod LinesInFiles
 pub mod Routed
+pub mod SinkTurns
+pub mod QueueFiles

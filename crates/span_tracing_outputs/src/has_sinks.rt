@@ -1,7 +1,8 @@
 //! The sinks of a stack's outputs, numbered through all outputs.
 ghost use Rattle.std.specs.Prelude.{◌≡◌};
 ghost use Rattle.std.specs.Option.{option_copied};
-ghost use Rattle.span_tracing_outputs.specs.sinks.SinkCalls.{CallsIn, CallsStack, sink_in, sink_place, sinks_in, sinks_of};
+ghost use Rattle.span_tracing_outputs.specs.sinks.SinkCalls.{CallsIn, CallsStack, outputs_hold, sink_in, sink_place, sinks_in, sinks_of};
+ghost use Rattle.span_tracing_outputs.specs.sinks.SinkCalls.{stack_holds};
 
 use crate::sinks::{AnySink, RoutedSinks};
 use crate::trace_stack::TraceStack;
@@ -58,6 +59,16 @@ fn sink_in<S: Drop>(outputs: &[RoutedSinks<S>], number: usize) -> Option<&S>
     }
 }
 
+// Whether a line is held beside the queue of a sink.
+fn is_holding_in<D: Folder>(outputs: &[RoutedSinks<AnySink<D>>]) -> bool
+    ensures { result ≡ outputs_hold outputs.now }
+{
+    match outputs {
+        [] => false,
+        [first, later @ ..] => first.is_holding() || is_holding_in(later),
+    }
+}
+
 // Does this to the queue of the sink with a number.
 fn drive_in<D: Folder>(
     outputs: &mut [RoutedSinks<AnySink<D>>],
@@ -94,12 +105,18 @@ impl<N: FormatFields + Drop, E: FormatEvent, F: Filter, D: Folder> HasSinks
 
     ghost drives = { λ x number call reply y. CallsStack D.contents D.failed x number call reply y };
 
+    ghost holds = { λ x. stack_holds x };
+
     ghost spans_stay = { λ x number call reply y goes. ap (λ s. s.registry) goes.0 };
 
     ghost word_stays = { λ x number call reply y goes k. same_word ⟦<F as Filter>⟧ x y goes.0 k };
 
     fn sink_count(&self) -> usize {
         count_in(self.sinks.as_slice())
+    }
+
+    fn is_holding(&self) -> bool {
+        is_holding_in(self.sinks.as_slice())
     }
 
     fn drive(&mut self, number: usize, call: QueueCall) -> Reply {

@@ -24,6 +24,7 @@ pub use sink::LineSink;
 pub use sinks::{
     AnySink, RollingSink, RoutedSinks, UnroutedSinks, drops_are_counted, each_sink_has_its_run,
     kept_lines_go_in_turn, kinds_stay, lines_reach_files, lines_stand_in_files,
-    routed_sinks_take_theirs, runs_are_told, runs_compose,
+    queued_lines_stand_in_files, routed_sinks_take_theirs, runs_are_told, runs_compose,
+    sinks_meet_theirs,
 };
 pub use trace_stack::{TraceStack, UnpairedSinks};

@@ -263,8 +263,9 @@ lane_counted s counted = record {
   numbers = counted.numbers;
 }
 
-stack_counted : (s : Skeleton) (registry : RegistryValue) (count : ℕ) → IsCounted s → IsCounted (with_stack s registry count)
-stack_counted s registry count counted =
+stack_counted : (s : Skeleton) (registry : RegistryValue) (count sinks : ℕ) → IsCounted s →
+    IsCounted (with_stack s registry count sinks)
+stack_counted s registry count sinks counted =
     let added : HeldStack = record { number = s.given; holds = 1; registry = registry } in
     record {
       counts = λ n.

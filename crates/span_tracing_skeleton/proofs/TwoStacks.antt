@@ -41,6 +41,7 @@ module _ (m : PlainMetadata) where
     lanes = Unset ∷ Unset ∷ [];
     given = 2;
     outputs = 2 ∷ 1 ∷ [];
+    sinks = 2 ∷ 1 ∷ [];
     stacks = stacked 0 one_open ∷ stacked 1 two_open ∷ [];
     handles = Some 0 ∷ Some 1 ∷ [];
     guards = [];

@@ -49,7 +49,8 @@ pub record StaysCounted : Type 0 where
   pub new : IsCounted new_skeleton
   pub callsite_added : (s : Skeleton) (m : PlainMetadata) → IsCounted s → IsCounted (with_callsite s m)
   pub lane_added : (s : Skeleton) → IsCounted s → IsCounted (with_lane s)
-  pub stack_added : (s : Skeleton) (registry : RegistryValue) (count : ℕ) → IsCounted s → IsCounted (with_stack s registry count)
+  pub stack_added : (s : Skeleton) (registry : RegistryValue) (count sinks : ℕ) → IsCounted s →
+      IsCounted (with_stack s registry count sinks)
   pub stepped : (s : Skeleton) (step : PlainStep) (a : Answers) → IsCounted s → IsCounted (after s step a)
   pub held : (s : Skeleton) (stack : ℕ) → IsCounted s → IsTrue (is_held s stack) ↔ 0 < holders s stack
   pub given : (s : Skeleton) (stack : ℕ) → IsCounted s → IsTrue (is_held s stack) → IsTrue (knows_stack s stack)

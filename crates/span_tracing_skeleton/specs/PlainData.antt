@@ -14,6 +14,7 @@ use Rattle.span_tracing_skeleton.specs.declared.call.NewSpanCall.{NewSpanCall}
 use Rattle.span_tracing_skeleton.specs.declared.call.RecordCall.{RecordCall}
 use Rattle.span_tracing_skeleton.specs.declared.call.ResetCall.{ResetCall}
 use Rattle.span_tracing_skeleton.specs.declared.call.Step.{Step}
+use Rattle.span_tracing_skeleton.specs.declared.queue_call.SinkCall.{SinkCall}
 use Rattle.span_tracing_skeleton.specs.declared.setting.SettingCall.{SettingCall}
 use Rattle.span_tracing_skeleton.specs.declared.call.Step.TheVariants as steps
 
@@ -36,7 +37,7 @@ pub record RecordRequest : Type 0 where
 abbrev pub on_span : RecordRequest → SpanCall
 on_span r = record { lane = r.lane; moment = r.moment; span = r.span }
 
--- a step
+-- a step but those of queues
 pub data PlainStep : Type 0 where
   GlobalStep : ℕ → PlainStep
   EventStep : Request → PlainStep
@@ -53,6 +54,11 @@ pub data PlainStep : Type 0 where
   CloneHandleStep : ℕ → PlainStep
   ReleaseStep : ℕ → PlainStep
   SetStep : SettingCall → PlainStep
+
+-- any step: such a one, or a call on a sink's queue
+pub data AnyStep : Type 0 where
+  OfTrace : PlainStep → AnyStep
+  OfQueue : SinkCall → AnyStep
 
 abbrev pub event_request : EventCall → Request
 event_request e = record {
@@ -77,22 +83,23 @@ span_request n = record {
 abbrev pub record_request : RecordCall → RecordRequest
 record_request r = record { lane = r.lane; moment = r.moment; span = r.span; values = owned_entries r.values.items }
 
-abbrev pub plain_step : Step → PlainStep
-plain_step (steps.SetGlobalDefault handle) = GlobalStep handle
-plain_step (steps.Event e) = EventStep (event_request e)
-plain_step (steps.Enabled call) = EnabledStep call
-plain_step (steps.NewSpan n) = SpanStep (span_request n)
-plain_step (steps.Record r) = RecordStep (record_request r)
-plain_step (steps.RecordFollowsFrom call) = FollowsFromStep call
-plain_step (steps.Enter call) = EnterStep call
-plain_step (steps.Exit call) = ExitStep call
-plain_step (steps.CloneSpan call) = CloneStep call
-plain_step (steps.TryClose call) = CloseStep call
-plain_step (steps.SetDefault call) = DefaultStep call
-plain_step (steps.ResetDefault call) = ResetStep call
-plain_step (steps.CloneHandle handle) = CloneHandleStep handle
-plain_step (steps.Release handle) = ReleaseStep handle
-plain_step (steps.Set call) = SetStep call
+abbrev pub any_step : Step → AnyStep
+any_step (steps.SetGlobalDefault handle) = OfTrace (GlobalStep handle)
+any_step (steps.Event e) = OfTrace (EventStep (event_request e))
+any_step (steps.Enabled call) = OfTrace (EnabledStep call)
+any_step (steps.NewSpan n) = OfTrace (SpanStep (span_request n))
+any_step (steps.Record r) = OfTrace (RecordStep (record_request r))
+any_step (steps.RecordFollowsFrom call) = OfTrace (FollowsFromStep call)
+any_step (steps.Enter call) = OfTrace (EnterStep call)
+any_step (steps.Exit call) = OfTrace (ExitStep call)
+any_step (steps.CloneSpan call) = OfTrace (CloneStep call)
+any_step (steps.TryClose call) = OfTrace (CloseStep call)
+any_step (steps.SetDefault call) = OfTrace (DefaultStep call)
+any_step (steps.ResetDefault call) = OfTrace (ResetStep call)
+any_step (steps.CloneHandle handle) = OfTrace (CloneHandleStep handle)
+any_step (steps.Release handle) = OfTrace (ReleaseStep handle)
+any_step (steps.Set call) = OfTrace (SetStep call)
+any_step (steps.Queue call) = OfQueue call
 
-abbrev pub plain_steps : List Step → List PlainStep
-plain_steps ss = map plain_step ss
+abbrev pub any_steps : List Step → List AnyStep
+any_steps ss = map any_step ss

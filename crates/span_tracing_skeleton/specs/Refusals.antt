@@ -7,7 +7,7 @@ use Rattle.span_tracing_skeleton.specs.declared.refusal.Refusal.TheVariants.{Bad
 use Rattle.span_tracing_skeleton.specs.declared.refusal.Refusal.TheVariants.{BadRoute, JsonFieldsNeeded, UnknownLane, GlobalSet, Taken}
 use Rattle.span_tracing_skeleton.specs.declared.refusal.Refusal.TheVariants.{TooManyHandles, IdsSpent, WrongLane}
 use Rattle.span_tracing_skeleton.specs.declared.refusal.Refusal.TheVariants.{UnknownShelf, ZeroLimit, NoRoom, NothingHeld}
-use Rattle.span_tracing_skeleton.specs.declared.refusal.Refusal.TheVariants.{Closed, NotQueued, UnknownSink, MarkSent}
+use Rattle.span_tracing_skeleton.specs.declared.refusal.Refusal.TheVariants.{Busy, Closed, NotQueued, UnknownSink, MarkSent}
 
 abbrev pub refusal_number : Refusal → ℕ
 refusal_number UnknownCallsite = 1
@@ -24,6 +24,7 @@ refusal_number BadName = 11
 refusal_number FolderRefused = 12
 refusal_number BadMoment = 13
 refusal_number OutOfMemory = 14
+refusal_number Busy = 15
 refusal_number NoRoom = 16
 refusal_number NothingHeld = 17
 refusal_number Closed = 18

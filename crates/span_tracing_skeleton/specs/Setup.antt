@@ -11,11 +11,12 @@ with_callsite s m = record s { callsites = s.callsites ++ m ∷ [] }
 abbrev pub with_lane : Skeleton → Skeleton
 with_lane s = record s { lanes = s.lanes ++ Unset ∷ [] }
 
--- with a stack of the next number, which has so many outputs, and a handle that holds it
-abbrev pub with_stack : Skeleton → RegistryValue → ℕ → Skeleton
-with_stack s registry count = record s {
+-- with a stack of the next number, which has so many outputs and sinks, and a handle that holds it
+abbrev pub with_stack : Skeleton → RegistryValue → ℕ → ℕ → Skeleton
+with_stack s registry count sinks = record s {
   given = s.given + 1;
   outputs = s.outputs ++ count ∷ [];
+  sinks = s.sinks ++ sinks ∷ [];
   stacks = s.stacks ++ (record { number = s.given; holds = 1; registry = registry }) ∷ [];
   handles = s.handles ++ Some s.given ∷ [];
 }

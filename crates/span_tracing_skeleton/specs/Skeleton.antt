@@ -26,20 +26,31 @@ pub record GuardValue : Type 0 where
   pub restores : Default
 
 -- callsites in order of registering, each with its identifier as the callsite of its fields; the lanes' own defaults; how many stacks were
--- given, and by number how many outputs each has; those that somebody holds, in order of their numbers; by number the stack of each handle, and none for a spent one; by number each
--- guard, and none for a spent one; and the global default
+-- given, and by number how many outputs and how many sinks each has; those that somebody holds, in order of their numbers; by number the
+-- stack of each handle, and none for a spent one; by number each guard, and none for a spent one; and the global default
 pub record Skeleton : Type 0 where
   pub callsites : List PlainMetadata
   pub lanes : List Default
   pub given : ℕ
   pub outputs : List ℕ
+  pub sinks : List ℕ
   pub stacks : List HeldStack
   pub handles : List (Option ℕ)
   pub guards : List (Option GuardValue)
   pub default : Default
 
 abbrev pub new_skeleton : Skeleton
-new_skeleton = record { callsites = []; lanes = []; given = 0; outputs = []; stacks = []; handles = []; guards = []; default = Unset }
+new_skeleton = record {
+  callsites = [];
+  lanes = [];
+  given = 0;
+  outputs = [];
+  sinks = [];
+  stacks = [];
+  handles = [];
+  guards = [];
+  default = Unset;
+}
 
 -- what the filters of the reached stack answered of a step
 pub data Answers : Type 0 where

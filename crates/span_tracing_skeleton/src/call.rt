@@ -2,6 +2,7 @@
 ghost use Rattle.std.specs.Prelude.{◌≡◌};
 
 use crate::call_error::CallError;
+use crate::queue_call::SinkCall;
 use crate::refusal::Refusal;
 use crate::setting::SettingCall;
 use std::num::NonZeroU64;
@@ -130,6 +131,8 @@ pub enum Step {
     Release(usize),
     /// Changes a setting of an output, from the next step on.
     Set(SettingCall),
+    /// Works the queue of a sink, admits a line to it, or shuts it down.
+    Queue(SinkCall),
 }
 
 /// The answer to a step.

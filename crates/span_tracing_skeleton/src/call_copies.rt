@@ -1,6 +1,6 @@
 //! Copies of steps, which may find no memory. A copy says what the step does.
 ghost use Rattle.std.specs.Prelude.{◌≡◌};
-ghost use Rattle.span_tracing_skeleton.specs.PlainData.{event_request, plain_step, record_request, span_request};
+ghost use Rattle.span_tracing_skeleton.specs.PlainData.{any_step, event_request, record_request, span_request};
 
 use crate::call::{EventCall, NewSpanCall, RecordCall, Step};
 use std::alloc::AllocError;
@@ -50,7 +50,7 @@ impl Clone for RecordCall {
 }
 
 impl Clone for Step {
-    ghost is_clone = { λ step copy. plain_step copy ≡ plain_step step };
+    ghost is_clone = { λ step copy. any_step copy ≡ any_step step };
 
     fn clone(&self) -> Result<Step, AllocError> {
         Ok(match self {
@@ -69,6 +69,7 @@ impl Clone for Step {
             Step::CloneHandle(handle) => Step::CloneHandle(*handle),
             Step::Release(handle) => Step::Release(*handle),
             Step::Set(call) => Step::Set(*call),
+            Step::Queue(call) => Step::Queue(*call),
         })
     }
 }

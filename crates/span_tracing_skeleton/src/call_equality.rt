@@ -1,6 +1,6 @@
 //! Whether two calls say the same. An absent value says nothing.
 ghost use Rattle.std.specs.Prelude.{◌≡◌, ◌↔◌, IsTrue};
-ghost use Rattle.span_tracing_skeleton.specs.PlainData.{event_request, plain_step, record_request, span_request};
+ghost use Rattle.span_tracing_skeleton.specs.PlainData.{any_step, event_request, record_request, span_request};
 
 use crate::call::{
     EventCall, FollowsCall, NewSpanCall, Parent, RecordCall, SpanCall, SpanName, Step,
@@ -90,7 +90,7 @@ impl RecordCall {
 impl Step {
     /// Whether both say the same: they are one step, once the values that are absent are left out.
     pub fn is_same(&self, other: &Step) -> bool
-        ensures { IsTrue result ↔ plain_step self.now ≡ plain_step other.now }
+        ensures { IsTrue result ↔ any_step self.now ≡ any_step other.now }
     {
         match (self, other) {
             (Step::SetGlobalDefault(a), Step::SetGlobalDefault(b)) => *a == *b,
@@ -108,6 +108,7 @@ impl Step {
             (Step::CloneHandle(a), Step::CloneHandle(b)) => *a == *b,
             (Step::Release(a), Step::Release(b)) => *a == *b,
             (Step::Set(a), Step::Set(b)) => *a == *b,
+            (Step::Queue(a), Step::Queue(b)) => *a == *b,
             _ => false,
         }
     }

@@ -1,5 +1,5 @@
 //! What has sinks, of which some are queued.
-ghost use Rattle.std.specs.Prelude.{◌≡◌, ℕ};
+ghost use Rattle.std.specs.Prelude.{◌≡◌, Bool, ℕ};
 ghost use Rattle.span_tracing_skeleton.specs.Consistency.{StaysConsistent};
 ghost use Rattle.span_tracing_skeleton.specs.declared.call.Reply.{Reply};
 ghost use Rattle.span_tracing_skeleton.specs.declared.queue_call.QueueCall.{QueueCall};
@@ -17,9 +17,16 @@ pub trait HasSinks: HasRegistry {
     // What a call on the queue of the sink with a number is answered, and what it leaves.
     ghost drives: { Self → ℕ → QueueCall → Reply → Self → Type 0 };
 
+    // Whether a line is held beside a queue of one of them.
+    ghost holds: { Self → Bool };
+
     /// How many sinks it has.
     fn sink_count(&self) -> usize
         ensures { result ≡ sinks_in self.now };
+
+    /// Whether a line is held beside a queue of one of them.
+    fn is_holding(&self) -> bool
+        ensures { result ≡ holds self.now };
 
     /// Does this to the queue of the sink with a number. Refused where there is no such sink (`UnknownSink`), and where it isn't queued
     /// (`NotQueued`).

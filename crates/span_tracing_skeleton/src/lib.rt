@@ -25,6 +25,6 @@ pub use has_outputs::HasOutputs;
 pub use has_registry::HasRegistry;
 pub use has_sinks::HasSinks;
 pub use laws::stays_counted;
-pub use queue_call::QueueCall;
+pub use queue_call::{QueueCall, SinkCall};
 pub use refusal::Refusal;
 pub use setting::{OutputPlace, Setting, SettingCall, SpanMoments};

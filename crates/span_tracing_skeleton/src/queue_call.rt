@@ -12,3 +12,12 @@ pub enum QueueCall {
     /// The mark that closes the queue is put behind the lines that are queued now.
     Shutdown,
 }
+
+/// A call on the queue of a sink.
+#[derive(Clone, Copy, Debug, PartialEq, Eq)]
+pub struct SinkCall {
+    /// The number of the sink. Sinks are numbered from 0 through all stacks and their outputs, in order.
+    pub sink: usize,
+    /// What is done to its queue.
+    pub call: QueueCall,
+}

@@ -35,6 +35,8 @@ pub enum Refusal {
     BadMoment,
     #[error("out of memory")]
     OutOfMemory,
+    #[error("a line is held beside a queue: it is admitted or given up first")]
+    Busy,
     #[error("the queue has no room")]
     NoRoom,
     #[error("no line is held beside the queue")]
@@ -89,6 +91,7 @@ impl Refusal {
             Refusal::FolderRefused => 12,
             Refusal::BadMoment => 13,
             Refusal::OutOfMemory => 14,
+            Refusal::Busy => 15,
             Refusal::NoRoom => 16,
             Refusal::NothingHeld => 17,
             Refusal::Closed => 18,

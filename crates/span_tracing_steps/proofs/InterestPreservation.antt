@@ -24,7 +24,7 @@ use Rattle.tracing_core.proofs.SubscriberNumbers.{by_bool}
 use Rattle.span_registry_layers_store.specs.Registries.{RegistryValue}
 use Rattle.span_tracing_skeleton.specs.Looking.{callsite_of, inner, known, named, output_in, reach}
 use Rattle.span_tracing_skeleton.specs.Order.{refusal_of}
-use Rattle.span_tracing_skeleton.specs.PlainData.{PlainStep, GlobalStep, EventStep, EnabledStep, SpanStep, RecordStep, FollowsFromStep}
+use Rattle.span_tracing_skeleton.specs.PlainData.{AnyStep, OfQueue, OfTrace, PlainStep, GlobalStep, EventStep, EnabledStep, SpanStep, RecordStep, FollowsFromStep}
 use Rattle.span_tracing_skeleton.specs.PlainData.{EnterStep, ExitStep, CloneStep, CloseStep, DefaultStep, ResetStep, CloneHandleStep}
 use Rattle.span_tracing_skeleton.specs.PlainData.{ReleaseStep, SetStep, Request, RecordRequest}
 use Rattle.span_tracing_skeleton.specs.declared.call.EnabledCall.{EnabledCall}
@@ -37,6 +37,7 @@ use Rattle.span_tracing_skeleton.specs.declared.queue_call.QueueCall.{QueueCall}
 use Rattle.span_tracing_skeleton.specs.declared.setting.OutputPlace.{OutputPlace}
 use Rattle.span_tracing_skeleton.specs.declared.setting.Setting.{Setting}
 use Rattle.span_tracing_skeleton.specs.declared.refusal.Refusal.{Refusal}
+use Rattle.span_tracing_steps.specs.AnySteps.{AnyStepGives}
 use Rattle.span_tracing_steps.specs.InterestPreservation.{CacheStaysValid}
 use Rattle.span_tracing_steps.specs.Interests.{KeepsWord}
 use Rattle.span_tracing_steps.specs.Setup.{AddGives, RegisterGives, RegistersAs}
@@ -321,15 +322,26 @@ module _ {T : Type 0} (g : Ghosts T) where
         DriveGives drives v sink call reply w → KeepsWord g w
     driven v sink call reply w word_kept goes = kept v w word_kept (place_keeps v (output_in v.sinks 0 sink) call reply w goes)
 
+  -- a step of each kind
+  module _ (registry_of : T → RegistryValue) (set : T → ℕ → Setting → T) (drives : T → ℕ → QueueCall → Reply → T → Type 0)
+      (holds : T → Bool) (word : (x : T) (place : ℕ) (setting : Setting) → StaysConsistent g x (set x place setting))
+      (drives_word : (x : T) (number : ℕ) (call : QueueCall) (reply : Reply) (y : T) → drives x number call reply y →
+      StaysConsistent g x y) where
+    any_stepped : (v : StateValue T) (step : AnyStep) (reply : Reply) (w : StateValue T) → KeepsWord g v →
+        AnyStepGives g registry_of set drives holds v step reply w → KeepsWord g w
+    any_stepped v (OfTrace step) reply w kept_word (inl (held, told, same)) = subst (KeepsWord g) (sym same) kept_word
+    any_stepped v (OfTrace step) reply w kept_word (inr (free, goes)) = stepped registry_of set word v step reply w kept_word goes
+    any_stepped v (OfQueue ask) reply w kept_word goes =
+        driven drives drives_word v ask.sink ask.call reply w kept_word goes
+
   pub cache_stays_valid : (registry_of : T → RegistryValue) (outputs_in sinks_in : T → ℕ) (set : T → ℕ → Setting → T)
-      (drives : T → ℕ → QueueCall → Reply → T → Type 0) →
+      (drives : T → ℕ → QueueCall → Reply → T → Type 0) (holds : T → Bool) →
       ((x : T) (place : ℕ) (setting : Setting) → StaysConsistent g x (set x place setting)) →
       ((x : T) (number : ℕ) (call : QueueCall) (reply : Reply) (y : T) → drives x number call reply y → StaysConsistent g x y) →
-      CacheStaysValid g registry_of outputs_in sinks_in set drives
-  cache_stays_valid registry_of outputs_in sinks_in set drives word drives_word = record {
+      CacheStaysValid g registry_of outputs_in sinks_in set drives holds
+  cache_stays_valid registry_of outputs_in sinks_in set drives holds word drives_word = record {
     new = record { sound = record { numbers = omega arith; apart = tt; sites = tt }; valid = λ n f there. absurd (cc) };
     added = added outputs_in sinks_in;
     registered = register_word;
-    stepped = stepped registry_of set word;
-    driven = driven drives drives_word;
+    stepped = any_stepped registry_of set drives holds word drives_word;
   }

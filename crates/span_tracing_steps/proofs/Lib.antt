@@ -9,3 +9,5 @@ pub mod HoldChanges
 pub mod Registration
 pub mod InterestPreservation
 pub mod SinkCalls
+pub mod HeldLines
+pub mod AnySteps

@@ -5,10 +5,12 @@ pub mod TraceInvariant
 pub mod StackRequests
 pub mod Steps
 pub mod Setup
+pub mod SinkCalls
+pub mod AnySteps
 pub mod Interests
 pub mod InterestPreservation
 pub mod RequestTarget
 pub mod FullHandles
 pub mod FilterSwaps
 pub mod Asking
-pub mod SinkCalls
+pub mod Runs

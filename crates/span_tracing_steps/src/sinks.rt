@@ -1,8 +1,9 @@
 //! Queues of sinks.
 ghost use Rattle.std.specs.Prelude.{◌≡◌, slice_get};
 ghost use Rattle.span_tracing_skeleton.specs.Looking.{inner, output_in};
+ghost use Rattle.span_tracing_steps.specs.AnySteps.{holds_in, holds_of};
 ghost use Rattle.span_tracing_steps.specs.SinkCalls.{DriveGives, StackCalled, WaitingCalled};
-ghost use Rattle.span_tracing_steps.specs.States.{held_in, value_in};
+ghost use Rattle.span_tracing_steps.specs.States.{held_in, stack_in, value_in};
 
 use crate::parts::TraceParts;
 use crate::settings::place_in;
@@ -20,6 +21,30 @@ impl<T: Subscriber> TraceParts<T> {
 
 impl<T: Subscriber + HasRegistry + HasSinks> TraceParts<T> {
     ghost use Rattle.span_tracing_steps.specs.TraceInvariant.{IsSound};
+
+    // Whether the stack with a number holds a line, where it isn't taken.
+    fn holds_at(&self, number: usize) -> bool
+        ensures { result ≡ holds_of T.holds (stack_in (value_in self.now) number) }
+    {
+        match self.stack(number) {
+            None => false,
+            Some(stack) => stack.is_holding(),
+        }
+    }
+
+    /// Whether a line is held beside the queue of a sink, whose stack may have been released, but not taken. Each step but the calls on
+    /// queues is refused then.
+    pub fn is_busy(&self) -> bool
+        requires { IsSound self.now }
+        ensures { result ≡ holds_in T.holds (value_in self.now) }
+    {
+        for number in 0..self.given() {
+            if self.holds_at(number) {
+                return true;
+            }
+        }
+        false
+    }
 
     // Does this to the queue of the sink at a place of a stack that was released and waits to be taken.
     fn drive_waiting(&mut self, at: OutputPlace, call: QueueCall) -> Reply

@@ -2,20 +2,20 @@
 use Rattle.std.specs.Prelude.{ℕ, List, [], ◌∷◌, Some}
 use Rattle.tracing_core.specs.PlainValue.{Text}
 use Rattle.tracing_core_moments.specs.declared.moment.Moment.{Moment}
-use Rattle.span_tracing_skeleton.specs.PlainData.{PlainStep, DefaultStep, EventStep, ResetStep}
+use Rattle.span_tracing_skeleton.specs.PlainData.{AnyStep, DefaultStep, EventStep, OfTrace, ResetStep}
 use Rattle.span_tracing_skeleton.specs.declared.call.Parent.TheVariants.{Contextual}
 
 -- an event on a lane whose first field is a text
-abbrev pub message_on : ℕ → Moment → ℕ → List ℕ → PlainStep
+abbrev pub message_on : ℕ → Moment → ℕ → List ℕ → AnyStep
 message_on lane moment callsite text =
-    EventStep (record { lane = lane; moment = moment; callsite = callsite; parent = Contextual; values = (0, Text text) ∷ [] })
+    OfTrace (EventStep (record { lane = lane; moment = moment; callsite = callsite; parent = Contextual; values = (0, Text text) ∷ [] }))
 
 -- on the first lane
-abbrev pub message_step : Moment → ℕ → List ℕ → PlainStep
+abbrev pub message_step : Moment → ℕ → List ℕ → AnyStep
 message_step moment callsite text = message_on 0 moment callsite text
 
 -- the same while the lane has the stack with this handle as its own default, which a guard gives back
-abbrev pub apart_steps : ℕ → ℕ → ℕ → Moment → ℕ → List ℕ → List PlainStep
+abbrev pub apart_steps : ℕ → ℕ → ℕ → Moment → ℕ → List ℕ → List AnyStep
 apart_steps lane handle guard moment callsite text =
-    DefaultStep (record { lane = lane; handle = Some handle }) ∷ message_on lane moment callsite text ∷
-    ResetStep (record { lane = lane; guard = guard }) ∷ []
+    OfTrace (DefaultStep (record { lane = lane; handle = Some handle })) ∷ message_on lane moment callsite text ∷
+    OfTrace (ResetStep (record { lane = lane; guard = guard })) ∷ []

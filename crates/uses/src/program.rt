@@ -4,13 +4,11 @@ ghost use Rattle.std.specs.Prelude.{◌≡◌, ◌∷◌, [], IfOk, OnErr, Some,
 ghost use Rattle.tracing_core.specs.IndexedEntries.{lent_entries};
 ghost use Rattle.tracing_core.specs.PlainValue.{Text};
 ghost use Rattle.tracing_core_moments.specs.Moments.{is_moment};
-ghost use Rattle.span_tracing_outputs.specs.OutputSettings.{stack_set};
 ghost use Rattle.span_tracing_outputs.specs.TraceFollows.{IsReady};
-ghost use Rattle.span_tracing_steps.specs.Steps.{StepGives};
 ghost use Rattle.span_tracing_skeleton.specs.Looking.{reach};
-ghost use Rattle.span_tracing_laws.specs.runs.StepFollows.{TraceIsReady, registry_of, skeleton_of};
-ghost use Rattle.span_tracing_laws.specs.runs.Runs.{Caching, RunGives};
-ghost use Rattle.span_tracing.specs.Ready.{RunsReady};
+ghost use Rattle.span_tracing_laws.specs.runs.StepFollows.{TraceIsReady, skeleton_of};
+ghost use Rattle.span_tracing_steps.specs.Runs.{Caching};
+ghost use Rattle.span_tracing.specs.Ready.{FileRunGives, FileStepGives, RunsReady};
 ghost use Rattle.uses.specs.Programs.{message_step};
 
 use event_formatter::FormatEvent;
@@ -140,8 +138,8 @@ pub(crate) fn message(text: &str) -> LentValue<'_>
 /// Logs a text as an event at a callsite whose first field is the message, on lane 0: the step that `message_step` tells.
 /// A refused step leaves the trace as it was.
 pub fn log_text(trace: &mut MemoryTrace, moment: Moment, callsite: Identifier, text: &str) -> Reply
-    ensures { StepGives ⟦<FileStack<LevelFilter, MemoryFolder> as Subscriber>⟧ registry_of stack_set
-        trace.old (message_step moment callsite.0 text.now) result trace.new }
+    ensures { FileStepGives ⟦<MemoryFolder as Folder>⟧.contents ⟦<MemoryFolder as Folder>⟧.failed
+        ⟦<FileStack<LevelFilter, MemoryFolder> as Subscriber>⟧ trace.old (message_step moment callsite.0 text.now) result trace.new }
 {
     trace.event(0, moment, callsite, Parent::Contextual, &[message(text)])
 }
@@ -155,7 +153,8 @@ pub fn log_both(
     first: &str,
     second: &str,
 ) -> (Reply, Reply)
-    ensures gives { RunGives ⟦<FileStack<LevelFilter, MemoryFolder> as Subscriber>⟧ Caching trace.old
+    ensures gives { FileRunGives ⟦<MemoryFolder as Folder>⟧.contents ⟦<MemoryFolder as Folder>⟧.failed
+        ⟦<FileStack<LevelFilter, MemoryFolder> as Subscriber>⟧ Caching trace.old
         (message_step moment callsite.0 first.now ∷ message_step moment callsite.0 second.now ∷ [])
         (result.0 ∷ result.1 ∷ []) trace.new }
     ensures run { RunsReady ⟦<MemoryFolder as Folder>⟧.contents ⟦<MemoryFolder as Folder>⟧.failed

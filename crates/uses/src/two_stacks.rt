@@ -1,7 +1,8 @@
 //! A lane that reaches a stack of its own for a while.
 
 ghost use Rattle.std.specs.Prelude.{◌≡◌, ℕ, ◌∷◌, [], IfOk};
-ghost use Rattle.span_tracing_laws.specs.runs.Runs.{Caching, RunGives};
+ghost use Rattle.span_tracing.specs.Ready.{FileRunGives};
+ghost use Rattle.span_tracing_steps.specs.Runs.{Caching};
 ghost use Rattle.span_tracing_laws.specs.runs.StepFollows.{TraceIsReady};
 ghost use Rattle.span_tracing_skeleton.specs.declared.call.Reply.{Reply};
 ghost use Rattle.span_tracing_skeleton.specs.declared.call.Reply.TheVariants.{Guard};
@@ -9,7 +10,7 @@ ghost use Rattle.uses.specs.Programs.{apart_steps};
 
 use crate::program::{MemoryTrace, message};
 use span_registry_layers::Filter;
-use span_tracing::{FileStack, Lines, MemoryFolder, Moment, Parent, Refusal, Reply};
+use span_tracing::{FileStack, Folder, Lines, MemoryFolder, Moment, Parent, Refusal, Reply};
 use tracing_core::{Identifier, LevelFilter, Subscriber};
 
 /// Logs a text on a lane that reaches the stack with this handle meanwhile, and then what it reached before. Answers the reply to the
@@ -26,8 +27,9 @@ pub fn log_apart(
     callsite: Identifier,
     text: &str,
 ) -> Result<Reply, Refusal>
-    ensures run { IfOk result (λ reply. (guard : ℕ) × (back : Reply) × RunGives ⟦<FileStack<LevelFilter, MemoryFolder> as Subscriber>⟧
-        Caching trace.old (apart_steps lane handle guard moment callsite.0 text.now) (Guard guard ∷ reply ∷ back ∷ []) trace.new) }
+    ensures run { IfOk result (λ reply. (guard : ℕ) × (back : Reply) ×
+        FileRunGives ⟦<MemoryFolder as Folder>⟧.contents ⟦<MemoryFolder as Folder>⟧.failed
+        ⟦<FileStack<LevelFilter, MemoryFolder> as Subscriber>⟧ Caching trace.old (apart_steps lane handle guard moment callsite.0 text.now) (Guard guard ∷ reply ∷ back ∷ []) trace.new) }
     ensures ready { TraceIsReady ⟦<LevelFilter as Filter>⟧ ⟦<Lines as span_registry_layers::Layer>⟧ trace.old →
         TraceIsReady ⟦<LevelFilter as Filter>⟧ ⟦<Lines as span_registry_layers::Layer>⟧ trace.new }
 {

@@ -25,7 +25,7 @@ use stack::stack_line;
 pub use stack::{FormatName, OutputLine, SpanEvent, StackLine, TimeLine};
 use std::alloc::Global;
 use step::step_line;
-pub use step::{NamedValue, QueueStep, RecordLine, StepLine, SwapLine};
+pub use step::{NamedValue, RecordLine, StepLine, SwapLine};
 
 /// A line of the input.
 #[derive(Drop)]

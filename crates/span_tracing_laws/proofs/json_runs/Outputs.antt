@@ -20,7 +20,7 @@ use Rattle.span_tracing_outputs.specs.OutputMachines.{Fate, Fated, Happened, OnS
 use Rattle.span_tracing_outputs.specs.OutputFolds.{Fates, Numbered, first_of, outs_told, rest_of}
 use Rattle.span_tracing_outputs.specs.OutputSettings.{out_set, outs_set}
 use Rattle.span_tracing_outputs.specs.TraceFollows.{at_rest, lines_offered}
-use Rattle.span_tracing_skeleton.specs.PlainData.{PlainStep, Request, GlobalStep, EventStep, EnabledStep, SpanStep, RecordStep}
+use Rattle.span_tracing_skeleton.specs.PlainData.{AnyStep, OfQueue, OfTrace, PlainStep, Request, GlobalStep, EventStep, EnabledStep, SpanStep, RecordStep}
 use Rattle.span_tracing_skeleton.specs.PlainData.{FollowsFromStep, EnterStep, ExitStep, CloneStep, CloseStep, DefaultStep, ResetStep}
 use Rattle.span_tracing_skeleton.specs.PlainData.{CloneHandleStep, ReleaseStep, SetStep}
 use Rattle.span_tracing_skeleton.specs.Skeleton.{Answers}
@@ -31,13 +31,13 @@ use Rattle.span_tracing_outputs.specs.sinks.OutputRuns.{joined}
 use Rattle.span_tracing_outputs.specs.sinks.Runs.{lines_at}
 use Rattle.span_tracing_laws.specs.json.Objects.{AreFormattedSaid, AreInRangeSaid, AreObjectLines, CanBeFormatted, IsEventInRange}
 use Rattle.span_tracing_laws.specs.json.Objects.{IsFormattedSaid, IsInRangeSaid, IsJsonOut, IsPlaceInRange, JsonRuns, WritesEach}
-use Rattle.span_tracing_laws.specs.runs.Runs.{Plain, StepWithMask, Starved, Went, lines_left, lines_of, none_for, outs_left, plain_after}
+use Rattle.span_tracing_laws.specs.runs.Runs.{Drove, Plain, StepWithMask, Starved, Waited, Went, lines_left, lines_of, none_for, outs_left, plain_after}
 use Rattle.span_tracing_laws.specs.runs.Runs.{steps_of, turn_lines}
 use Rattle.span_tracing_laws.specs.runs.StepSettings.{OutputSetting, outs_with, setting_of}
 use Rattle.span_tracing_laws.specs.runs.StepNotices.{Told, told_of, told_to}
 use Rattle.span_tracing_laws.proofs.json_runs.NumbersInRange.{AreSaid, EachIsSaid, ListsAreSaid, Says, after_is, own_in_range, step_is_told}
 use Rattle.span_tracing_laws.specs.json_runs.JsonRuns.{AreObjectsRun, JsonOutputsRun}
-use Rattle.span_tracing_laws.specs.json_runs.Steps.{AnyValues, Brings, EventsAreFormatted, IsSkeletonInRange, StepsInRange}
+use Rattle.span_tracing_laws.specs.json_runs.Steps.{AnyValues, Brings, BringsAny, EventsAreFormatted, IsSkeletonInRange, StepsInRange}
 use Rattle.span_tracing_laws.specs.json_runs.Steps.{ValuesAreFormatted, ValuesInRange}
 
 run_at : (at : At) (lines : List PlainLine) → AreObjectLines lines → AreObjectsRun (lines_at at lines)
@@ -154,13 +154,17 @@ module _ (Q : PlainEvent → Type 0) where
             ((after_is p.skeleton step a is.0, by.0), by.1)
 
         pub run_is : (p : Plain N) (turns : List StepWithMask) (place : ℕ) → Goes p place →
-            AllByRecursion (Brings R ValuesInRange) (steps_of turns) → IfSome (slice_get (lines_of n p turns stack) place) AreObjectsRun
+            AllByRecursion (BringsAny R ValuesInRange) (steps_of turns) → IfSome (slice_get (lines_of n p turns stack) place) AreObjectsRun
         run_is p [] place is brings = none_is (p.outs stack) place
         run_is p (Went step a fates ∷ ts) place is brings =
             let turn = turn_is p step a fates place is brings.0 in
             joined_is (turn_lines n p (Went step a fates) stack) (lines_of n (plain_after n p (Went step a fates)) ts stack) place turn.1
             (run_is (plain_after n p (Went step a fates)) ts place turn.0 brings.1)
         run_is p (Starved step ∷ ts) place is brings = joined_is (none_for (p.outs stack)) (lines_of n p ts stack) place
+            (none_is (p.outs stack) place) (run_is p ts place is brings.1)
+        run_is p (Waited step ∷ ts) place is brings = joined_is (none_for (p.outs stack)) (lines_of n p ts stack) place
+            (none_is (p.outs stack) place) (run_is p ts place is brings.1)
+        run_is p (Drove ask answer ∷ ts) place is brings = joined_is (none_for (p.outs stack)) (lines_of n p ts stack) place
             (none_is (p.outs stack) place) (run_is p ts place is brings.1)
 
 -- values that can be formatted
@@ -210,9 +214,15 @@ both_brought (CloneHandleStep handle) range formatted = tt
 both_brought (ReleaseStep handle) range formatted = tt
 both_brought (SetStep call) range formatted = tt
 
-all_brought : (steps : List PlainStep) → StepsInRange steps → EventsAreFormatted steps → AllByRecursion (Brings AreBoth ValuesInRange) steps
+any_brought : (step : AnyStep) → BringsAny ValuesInRange ValuesInRange step → BringsAny ValuesAreFormatted AnyValues step →
+    BringsAny AreBoth ValuesInRange step
+any_brought (OfTrace step) range formatted = both_brought step range formatted
+any_brought (OfQueue ask) range formatted = tt
+
+all_brought : (steps : List AnyStep) → StepsInRange steps → EventsAreFormatted steps →
+    AllByRecursion (BringsAny AreBoth ValuesInRange) steps
 all_brought [] range formatted = tt
-all_brought (step ∷ steps) range formatted = (both_brought step range.0 formatted.0, all_brought steps range.1 formatted.1)
+all_brought (step ∷ steps) range formatted = (any_brought step range.0 formatted.0, all_brought steps range.1 formatted.1)
 
 -- events in range, and those that can be formatted too
 abbrev IsBoth : PlainEvent → Type 0

@@ -19,9 +19,10 @@ use Rattle.span_tracing_outputs.specs.OutputSettings.{outputs_in}
 use Rattle.span_tracing_outputs.specs.TraceStacks.{TraceStackValue}
 use Rattle.span_tracing_outputs.specs.Turns.{Lines}
 use Rattle.span_tracing_skeleton.specs.Counting.{IsCounted, StaysCounted}
-use Rattle.span_tracing_skeleton.specs.PlainData.{PlainStep}
+use Rattle.span_tracing_skeleton.specs.PlainData.{AnyStep, OfQueue, OfTrace, PlainStep}
 use Rattle.span_tracing_skeleton.specs.Skeleton.{Skeleton, Default}
 use Rattle.span_tracing_skeleton.specs.declared.call.Reply.{Reply}
+use Rattle.span_tracing_skeleton.specs.declared.queue_call.QueueCall.{QueueCall}
 use Rattle.span_tracing_steps.specs.States.{lane_default}
 use Rattle.tracing_core_fields.specs.requests.Interests.{PlainInterest}
 use Rattle.span_tracing_skeleton.specs.declared.refusal.Refusal.{Refusal}
@@ -30,10 +31,13 @@ use Rattle.span_tracing_skeleton.specs.Setup.{with_callsite}
 use Rattle.span_tracing_laws.specs.runs.Runs.{Asking, Caching, Road, RunGives, StepBy}
 use Rattle.span_tracing_laws.specs.runs.StepFollows.{Follows, TraceIsReady, Traced, registry_of, skeleton_of}
 use Rattle.span_tracing_laws.specs.runs.Laws.{Registers, SetupFollows, StepsFollow, TraceStaysCounted}
+use Rattle.span_tracing_laws.specs.runs.AnySteps.{AnyFollows, AnyStepsFollow}
 
 module _ {N E F S : Type 0} (n : Ghosts N) (line_of : E → Settings → PlainContext → PlainEvent → Option (List ℕ)) (g : FilterGhosts F)
-    (takes : S → At → PlainLine → S → Type 0) (h : LayerGhosts (Lines N E)) (sg : SubscriberGhosts (TraceStackValue N E F S))
-    (counted : StaysCounted) (setup : SetupFollows n line_of g takes h sg) (steps : StepsFollow n line_of g takes h sg) where
+    (takes : S → At → PlainLine → S → Type 0) (calls : ℕ → QueueCall → List S → Reply → List S → Type 0) (held : List S → Bool)
+    (h : LayerGhosts (Lines N E)) (sg : SubscriberGhosts (TraceStackValue N E F S)) (counted : StaysCounted)
+    (setup : SetupFollows n line_of g takes h sg) (acts : StepsFollow n line_of g takes h sg)
+    (steps : AnyStepsFollow n line_of g takes calls held h sg) where
   lane_counted : (v : Traced N E F S) → IsCounted (skeleton_of v) →
       IsCounted (record (skeleton_of v) {
         lanes = (skeleton_of
@@ -59,18 +63,24 @@ module _ {N E F S : Type 0} (n : Ghosts N) (line_of : E → Settings → PlainCo
       subst IsCounted (sym follows.skeleton) (counted.stepped (skeleton_of v) step follows.answers is)
   stepped_counted v step reply w (inr none) is = subst (λ (u : Traced N E F S). IsCounted (skeleton_of u)) (sym none.3) is
 
-  by_road : (road : Road) (v : Traced N E F S) (step : PlainStep) (reply : Reply) (w : Traced N E F S) → TraceIsReady g h v →
-      StepBy sg road v step reply w → IsCounted (skeleton_of v) → TraceIsReady g h w × IsCounted (skeleton_of w)
+  any_counted : (v : Traced N E F S) (step : AnyStep) (reply : Reply) (w : Traced N E F S) →
+      AnyFollows n line_of g takes calls held h v step reply w → IsCounted (skeleton_of v) → IsCounted (skeleton_of w)
+  any_counted v (OfTrace step) reply w (inl (held_so, told, same)) is = subst (λ (u : Traced N E F S). IsCounted (skeleton_of u)) (sym same) is
+  any_counted v (OfTrace step) reply w (inr (free, f)) is = stepped_counted v step reply w f is
+  any_counted v (OfQueue ask) reply w f is = subst IsCounted (sym f.1.skeleton) is
+
+  by_road : (road : Road) (v : Traced N E F S) (step : AnyStep) (reply : Reply) (w : Traced N E F S) → TraceIsReady g h v →
+      StepBy sg calls held road v step reply w → IsCounted (skeleton_of v) → TraceIsReady g h w × IsCounted (skeleton_of w)
   by_road Caching v step reply w ready goes is =
-      let one = steps v step reply w ready goes in
-      (one.1, stepped_counted v step reply w one.0 is)
+      let one = steps.each v step reply w ready goes in
+      (one.1, any_counted v step reply w one.0 is)
   by_road Asking v step reply w ready (start, asks, goes) is =
       let asked = setup.asked v start ready asks in
-      let one = steps start step reply w asked.ready goes in
-      (one.1, stepped_counted start step reply w one.0 (subst IsCounted (sym asked.keeps.skeleton) is))
+      let one = steps.each start step reply w asked.ready goes in
+      (one.1, any_counted start step reply w one.0 (subst IsCounted (sym asked.keeps.skeleton) is))
 
-  run_counted : (road : Road) (v : Traced N E F S) (steps_run : List PlainStep) (replies : List Reply) (w : Traced N E F S) →
-      TraceIsReady g h v → RunGives sg road v steps_run replies w → IsCounted (skeleton_of v) → IsCounted (skeleton_of w)
+  run_counted : (road : Road) (v : Traced N E F S) (steps_run : List AnyStep) (replies : List Reply) (w : Traced N E F S) →
+      TraceIsReady g h v → RunGives sg calls held road v steps_run replies w → IsCounted (skeleton_of v) → IsCounted (skeleton_of w)
   run_counted road v [] [] w ready same is = subst (λ (u : Traced N E F S). IsCounted (skeleton_of u)) (sym same) is
   run_counted road v [] (reply ∷ replies) w ready goes is = absurd goes
   run_counted road v (step ∷ later) [] w ready goes is = absurd goes
@@ -78,17 +88,18 @@ module _ {N E F S : Type 0} (n : Ghosts N) (line_of : E → Settings → PlainCo
       let one = by_road road v step reply mid ready goes is in
       run_counted road mid later replies w one.0 rest one.1
 
-  pub trace_stays_counted : TraceStaysCounted n line_of g takes h sg
+  pub trace_stays_counted : TraceStaysCounted n line_of g takes h sg calls held
   trace_stays_counted = record {
     new = counted.new;
     lane_added = λ v thread is. lane_counted v is;
     taken = λ v number is. is;
     added = λ sinks_in v x handle w ready own adds is. subst IsCounted (sym (setup.added sinks_in v x handle w ready own adds).3)
-        (counted.stack_added (skeleton_of v) (bare (registry_of x)) (outputs_in x) is);
+        (counted.stack_added (skeleton_of v) (bare (registry_of x)) (outputs_in x) (sinks_in x) is);
     registered = λ v m r w ready goes is. registered_counted (skeleton_of v) (skeleton_of w) m r (setup.registered v m r w ready goes).2 is;
     swapped = λ v output filter reply w back ready own goes is. subst IsCounted
         (sym (setup.swapped v output filter reply w back ready own goes).skeleton) is;
-    stepped = λ v step reply w ready goes is. stepped_counted v step reply w (steps v step reply w ready goes).0 is;
+    acted = λ v step reply w ready goes is. stepped_counted v step reply w (acts.each v step reply w ready goes).0 is;
+    stepped = λ v step reply w ready goes is. any_counted v step reply w (steps.each v step reply w ready goes).0 is;
     asked = λ v w ready asks is. subst IsCounted (sym (setup.asked v w ready asks).keeps.skeleton) is;
     ran = λ road v run replies w ready goes is. run_counted road v run replies w ready goes is;
   }

@@ -151,10 +151,10 @@ module _ {T : Type 0} (registry_of : T → RegistryValue) where
     -- where one is added
     pub added_skeleton : (v w : StateValue T) (x z : T) (count sinks : ℕ) → z ≡ x → Refreshed g ghosts (with_new v.hub z) w.hub →
         w ≡ record (added_to v count sinks) { hub = w.hub } →
-        skeleton_of registry_of w ≡ with_stack (skeleton_of registry_of v) (bare (registry_of x)) count
+        skeleton_of registry_of w ≡ with_stack (skeleton_of registry_of v) (bare (registry_of x)) count sinks
     added_skeleton v w x z count sinks same formed left =
         let next = v.hub.next in
-        let after : T → Skeleton = λ y. with_stack (skeleton_of registry_of v) (bare (registry_of y)) count in
+        let after : T → Skeleton = λ y. with_stack (skeleton_of registry_of v) (bare (registry_of y)) count sinks in
         formed_skeleton false (added_to v count sinks) w (with_new v.hub z) formed left
         ∙ ap (λ (ks : List HeldStack). record (after z) { stacks = ks; handles = map inner (v.handles ++ Some (Some next) ∷ []) })
         (map-append hs v.hub.subscribers (living next z ∷ []))

@@ -163,7 +163,7 @@ module _ {N E F S : Type 0} (n : Ghosts N) (line_of : E → Settings → PlainCo
       IsReady g x → AddGives sg outputs_in sinks_in v x (Ok handle) w →
       TraceIsReady g h w × Keeps (Some x) (stack_in w v.hub.next) ×
       ((stack : ℕ) → (stack == v.hub.next) ≡ false → Keeps (stack_in v stack) (stack_in w stack)) ×
-      (skeleton_of w ≡ with_stack (skeleton_of v) (bare (registry_of x)) (outputs_in x))
+      (skeleton_of w ≡ with_stack (skeleton_of v) (bare (registry_of x)) (outputs_in x) (sinks_in x))
   added_goes sinks_in v x handle w ready own (told, adds, left) =
       let next = v.hub.next in
       let es = v.hub.subscribers in

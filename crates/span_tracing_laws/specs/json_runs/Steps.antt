@@ -5,7 +5,7 @@ use Rattle.tracing_core_fields.specs.PlainValue.{PlainValue, debug_of}
 use Rattle.span_registry_layers_store.specs.Registries.{PlainSpan}
 use Rattle.event_formatter_text.specs.JsonLaws.{IsInRange}
 use Rattle.event_formatter_text.specs.JsonTexts.{json_value}
-use Rattle.span_tracing_skeleton.specs.PlainData.{PlainStep, GlobalStep, EventStep, EnabledStep, SpanStep, RecordStep, FollowsFromStep}
+use Rattle.span_tracing_skeleton.specs.PlainData.{AnyStep, OfQueue, OfTrace, PlainStep, GlobalStep, EventStep, EnabledStep, SpanStep, RecordStep, FollowsFromStep}
 use Rattle.span_tracing_skeleton.specs.PlainData.{EnterStep, ExitStep, CloneStep, CloseStep, DefaultStep, ResetStep, CloneHandleStep}
 use Rattle.span_tracing_skeleton.specs.PlainData.{ReleaseStep, SetStep}
 use Rattle.span_tracing_skeleton.specs.Skeleton.{HeldStack, Skeleton}
@@ -37,17 +37,21 @@ Brings of_event of_span (CloneHandleStep handle) = Unit {0}
 Brings of_event of_span (ReleaseStep handle) = Unit {0}
 Brings of_event of_span (SetStep call) = Unit {0}
 
+abbrev pub BringsAny : (List (ℕ × PlainValue) → Type 0) → (List (ℕ × PlainValue) → Type 0) → AnyStep → Type 0
+BringsAny of_event of_span (OfTrace step) = Brings of_event of_span step
+BringsAny of_event of_span (OfQueue ask) = Unit {0}
+
 -- any values
 abbrev pub AnyValues : List (ℕ × PlainValue) → Type 0
 AnyValues values = Unit {0}
 
 -- the numbers of the values that steps bring are in range
-abbrev pub StepsInRange : List PlainStep → Type 0
-StepsInRange steps = AllByRecursion (Brings ValuesInRange ValuesInRange) steps
+abbrev pub StepsInRange : List AnyStep → Type 0
+StepsInRange steps = AllByRecursion (BringsAny ValuesInRange ValuesInRange) steps
 
 -- the values of each event can be formatted
-abbrev pub EventsAreFormatted : List PlainStep → Type 0
-EventsAreFormatted steps = AllByRecursion (Brings ValuesAreFormatted AnyValues) steps
+abbrev pub EventsAreFormatted : List AnyStep → Type 0
+EventsAreFormatted steps = AllByRecursion (BringsAny ValuesAreFormatted AnyValues) steps
 
 -- the numbers of the lines in the source of callsites and of the stacks' open spans are in range
 pub record IsSkeletonInRange (s : Skeleton) : Type 0 where

@@ -1,5 +1,5 @@
 -- Laws of steps and runs.
-use Rattle.std.specs.Prelude.{◌≡◌, ◌==◌, if◌then◌else◌, is_some, Err, ℕ, false, List, Option, Some, Result, Ok}
+use Rattle.std.specs.Prelude.{◌≡◌, ◌==◌, if◌then◌else◌, is_some, Bool, Err, ℕ, false, List, Option, Some, Result, Ok}
 use Rattle.tracing_core_fields.specs.PlainMetadata.{PlainMetadata}
 use Rattle.tracing_core_fields.specs.requests.Interests.{PlainInterest}
 use Rattle.span_tracing_outputs.specs.OutputFolds.{Numbered}
@@ -22,8 +22,10 @@ use Rattle.span_tracing_outputs.specs.OutputFilters.{StackSwap}
 use Rattle.span_tracing_outputs.specs.OutputSettings.{outputs_in, stack_set}
 use Rattle.span_tracing_outputs.specs.TraceStacks.{TraceStackValue}
 use Rattle.span_tracing_outputs.specs.Turns.{Lines}
-use Rattle.span_tracing_skeleton.specs.PlainData.{PlainStep}
+use Rattle.span_tracing_skeleton.specs.PlainData.{AnyStep, PlainStep}
 use Rattle.span_tracing_skeleton.specs.declared.call.Reply.{Reply}
+use Rattle.span_tracing_skeleton.specs.declared.queue_call.QueueCall.{QueueCall}
+use Rattle.span_tracing_steps.specs.AnySteps.{AnyStepGives}
 use Rattle.span_tracing_steps.specs.States.{PlainThread, new_state, stack_in}
 use Rattle.span_registry_layers_store.specs.SlotIndependence.{bare}
 use Rattle.span_tracing_skeleton.specs.Counting.{IsCounted}
@@ -31,6 +33,7 @@ use Rattle.span_tracing_skeleton.specs.Looking.{named}
 use Rattle.span_tracing_skeleton.specs.Setup.{with_callsite, with_stack}
 use Rattle.span_tracing_skeleton.specs.Skeleton.{Skeleton}
 use Rattle.span_tracing_steps.specs.Steps.{StepGives}
+use Rattle.span_tracing_laws.specs.runs.DrivenSinks.{drives, holds}
 use Rattle.span_tracing_laws.specs.runs.SwappedOutputs.{stack_filtered, swapped_at}
 use Rattle.span_tracing_laws.specs.runs.KeptStacks.{OutsAgree, StackKeeps, StackStays, TraceKeeps}
 use Rattle.span_tracing_laws.specs.runs.Runs.{Road, RunFollows, RunGives}
@@ -44,15 +47,15 @@ Registers s m (Err refusal) t = t ≡ s
 module _ {N E F S : Type 0} (n : Ghosts N) (line_of : E → Settings → PlainContext → PlainEvent → Option (List ℕ)) (g : FilterGhosts F)
     (takes : S → At → PlainLine → S → Type 0) (h : LayerGhosts (Lines N E)) (sg : SubscriberGhosts (TraceStackValue N E F S)) where
   -- each step of a trace over stacks with sinks follows the skeleton and the output machines, and leaves the trace ready for the next one
-  abbrev pub StepsFollow : Type 0
-  StepsFollow = (v : Traced N E F S) (step : PlainStep) (reply : Reply) (w : Traced N E F S) → TraceIsReady g h v →
-      StepGives sg registry_of stack_set v step reply w →
-      Follows n line_of g takes h v step reply w × TraceIsReady g h w
+  pub record StepsFollow : Type 0 where
+    pub each : (v : Traced N E F S) (step : PlainStep) (reply : Reply) (w : Traced N E F S) → TraceIsReady g h v →
+        StepGives sg registry_of stack_set v step reply w → Follows n line_of g takes h v step reply w × TraceIsReady g h w
 
   -- so does a run of steps, on each road
-  abbrev pub RunsFollow : Type 0
-  RunsFollow = (road : Road) (v : Traced N E F S) (steps : List PlainStep) (replies : List Reply) (w : Traced N E F S) → TraceIsReady g h v →
-      RunGives sg road v steps replies w → RunFollows n line_of g takes h road v steps replies w × TraceIsReady g h w
+  abbrev pub RunsFollow : (ℕ → QueueCall → List S → Reply → List S → Type 0) → (List S → Bool) → Type 0
+  RunsFollow calls held = (road : Road) (v : Traced N E F S) (steps : List AnyStep) (replies : List Reply) (w : Traced N E F S) →
+      TraceIsReady g h v → RunGives sg calls held road v steps replies w →
+      RunFollows n line_of g takes calls held h road v steps replies w × TraceIsReady g h w
 
   -- A trace whose filters were all asked anew: it is ready, and keeps all but what filters and outputs were last told. What is kept of the
   -- interest in callsites is right, whatever it was before.
@@ -81,7 +84,7 @@ module _ {N E F S : Type 0} (n : Ghosts N) (line_of : E → Settings → PlainCo
         (w : Traced N E F S) → TraceIsReady g h v → IsReady g x →
         AddGives sg outputs_in sinks_in v x (Ok handle) w → TraceIsReady g h w × StackKeeps n line_of g (Some x) (stack_in w v.hub.next) ×
         ((stack : ℕ) → (stack == v.hub.next) ≡ false → StackKeeps n line_of g (stack_in v stack) (stack_in w stack)) ×
-        (skeleton_of w ≡ with_stack (skeleton_of v) (bare (registry_of x)) (outputs_in x))
+        (skeleton_of w ≡ with_stack (skeleton_of v) (bare (registry_of x)) (outputs_in x) (sinks_in x))
     pub registered : (v : Traced N E F S) (m : PlainMetadata) (r : Result PlainInterest Refusal) (w : Traced N E F S) →
         TraceIsReady g h v → RegisterGives sg v m r w →
         TraceIsReady g h w × ((stack : ℕ) → StackKeeps n line_of g (stack_in v stack) (stack_in w stack)) ×
@@ -93,7 +96,7 @@ module _ {N E F S : Type 0} (n : Ghosts N) (line_of : E → Settings → PlainCo
 
   -- Each stack of a trace is held by as many as it counts: of a new trace, and of a ready one after each setup call, step and run. What
   -- follows from that the law of skeletons says (`StaysCounted`).
-  pub record TraceStaysCounted : Type 0 where
+  pub record TraceStaysCounted (calls : ℕ → QueueCall → List S → Reply → List S → Type 0) (held : List S → Bool) : Type 0 where
     pub new : IsCounted (skeleton_of {N = N} {E = E} {F = F} {S = S} new_state)
     pub lane_added : (v : Traced N E F S) (thread : PlainThread) → IsCounted (skeleton_of v) → IsCounted (skeleton_of
         (with_thread v thread))
@@ -106,8 +109,11 @@ module _ {N E F S : Type 0} (n : Ghosts N) (line_of : E → Settings → PlainCo
     pub swapped : (v : Traced N E F S) (output : ℕ) (filter : F) (reply : Reply) (w : Traced N E F S) (back : F) → TraceIsReady g h v →
         g.honest filter → SwapGives sg registry_of (λ x place f y b. StackSwap g x place f y b) v output filter reply w back →
         IsCounted (skeleton_of v) → IsCounted (skeleton_of w)
-    pub stepped : (v : Traced N E F S) (step : PlainStep) (reply : Reply) (w : Traced N E F S) → TraceIsReady g h v →
+    -- a step that doesn't have to wait for a held line, and any step
+    pub acted : (v : Traced N E F S) (step : PlainStep) (reply : Reply) (w : Traced N E F S) → TraceIsReady g h v →
         StepGives sg registry_of stack_set v step reply w → IsCounted (skeleton_of v) → IsCounted (skeleton_of w)
+    pub stepped : (v : Traced N E F S) (step : AnyStep) (reply : Reply) (w : Traced N E F S) → TraceIsReady g h v →
+        AnyStepGives sg registry_of stack_set (drives calls) (holds held) v step reply w → IsCounted (skeleton_of v) → IsCounted (skeleton_of w)
     pub asked : (v w : Traced N E F S) → TraceIsReady g h v → AsksAnew sg v w → IsCounted (skeleton_of v) → IsCounted (skeleton_of w)
-    pub ran : (road : Road) (v : Traced N E F S) (steps : List PlainStep) (replies : List Reply) (w : Traced N E F S) → TraceIsReady g h v →
-        RunGives sg road v steps replies w → IsCounted (skeleton_of v) → IsCounted (skeleton_of w)
+    pub ran : (road : Road) (v : Traced N E F S) (steps : List AnyStep) (replies : List Reply) (w : Traced N E F S) → TraceIsReady g h v →
+        RunGives sg calls held road v steps replies w → IsCounted (skeleton_of v) → IsCounted (skeleton_of w)

@@ -19,7 +19,7 @@ use Rattle.tracing_appender_queue.specs.declared.queued.fate.AdmitError.{AdmitEr
 use Rattle.tracing_appender_queue.specs.declared.queued.fate.AdmitError.TheVariants as admit
 use Rattle.tracing_appender_queue.specs.declared.queued.queued_sink.QueuedSink.{QueuedSink}
 use Rattle.tracing_appender_queue.specs.queued.LineFates.{SettlesAll, SettlesLine}
-use Rattle.tracing_appender_queue.specs.queued.HeldLines.{Admits, worked}
+use Rattle.tracing_appender_queue.specs.queued.HeldLines.{Admits, is_some_line, worked}
 use Rattle.tracing_appender_queue.specs.queued.QueuedWork.{LinesLeft, WorksFrom}
 use Rattle.span_tracing_skeleton.specs.declared.call.Reply.{Reply}
 use Rattle.span_tracing_skeleton.specs.declared.call.Reply.TheVariants.{Done, Refused, Worked}
@@ -99,6 +99,11 @@ module _ {D : Type 0} (contents : D → Option Contents) (failed : D → ℕ) wh
   CallsAny (Direct old) call reply new = (reply ≡ Refused NotQueued) × (new ≡ Direct old)
   CallsAny (Queued old) call reply (Queued new) = CallsQueue call old reply new
   CallsAny (Queued old) call reply (Direct new) = ⊥
+
+-- whether a line is held beside its queue
+abbrev pub holds_line : {D : Type 0} → AnySink D → Bool
+holds_line (Direct sink) = false
+holds_line (Queued sink) = is_some_line sink.waiting.held
 
 -- how many lines found no memory at a sink
 abbrev pub missed_by : {D : Type 0} → AnySink D → ℕ

@@ -1,12 +1,12 @@
 -- Calls on the queues of a stack's sinks, which are numbered through its outputs.
-use Rattle.std.specs.Prelude.{◌≡◌, ◌+◌, ◌-◌, ℕ, suc, min, nat_lt, if◌then◌else◌, List, [], ◌∷◌, length, Option, Some, None, slice_get, slice_set}
+use Rattle.std.specs.Prelude.{◌≡◌, ◌+◌, ◌-◌, ◌||◌, Bool, false, ℕ, suc, min, nat_lt, if◌then◌else◌, List, [], ◌∷◌, length, Option, Some, None, slice_get, slice_set}
 use Rattle.tracing_appender_rolling.specs.folders.Contents.{Contents}
 use Rattle.span_tracing_skeleton.specs.declared.call.Reply.{Reply}
 use Rattle.span_tracing_skeleton.specs.declared.call.Reply.TheVariants.{Refused}
 use Rattle.span_tracing_skeleton.specs.declared.queue_call.QueueCall.{QueueCall}
 use Rattle.span_tracing_skeleton.specs.declared.refusal.Refusal.TheVariants.{UnknownSink}
 use Rattle.span_tracing_outputs.specs.TraceStacks.{TraceStackValue}
-use Rattle.span_tracing_outputs.specs.sinks.AnySinks.{CallsAny}
+use Rattle.span_tracing_outputs.specs.sinks.AnySinks.{CallsAny, holds_line}
 use Rattle.span_tracing_outputs.specs.sinks.Routed.{Routed}
 use Rattle.span_tracing_outputs.specs.declared.has_sinks.SinkPlace.{SinkPlace}
 use Rattle.span_tracing_outputs.specs.declared.sinks.any_sink.AnySink.{AnySink}
@@ -37,6 +37,18 @@ sink_there outputs (Some at) = sink_of (slice_get outputs at.output) at.sink
 -- the sink with a number
 abbrev pub sink_in : {S : Type 0} → List (Routed S) → ℕ → Option S
 sink_in outputs number = sink_there outputs (sink_place outputs 0 number)
+
+-- whether a line is held beside the queue of a sink
+abbrev pub some_hold : {D : Type 0} → List (AnySink D) → Bool
+some_hold [] = false
+some_hold (s ∷ ss) = holds_line s || some_hold ss
+
+abbrev pub outputs_hold : {D : Type 0} → List (Routed (AnySink D)) → Bool
+outputs_hold [] = false
+outputs_hold (o ∷ os) = some_hold o.sinks || outputs_hold os
+
+abbrev pub stack_holds : {N E F D : Type 0} → TraceStackValue N E F (Routed (AnySink D)) → Bool
+stack_holds x = outputs_hold x.sinks
 
 -- the value at a place is called, and the others stay; where there is none, that is told
 abbrev pub ReachesIf : {A : Type 0} → (A → Reply → A → Type 0) → ℕ → Option A → List A → Reply → List A → Type 0

@@ -3,7 +3,7 @@ ghost use Rattle.std.specs.Prelude.{◌≡◌};
 ghost use Rattle.tracing_core_moments.specs.Moments.{is_moment};
 ghost use Rattle.span_tracing_skeleton.specs.declared.queue_call.QueueCall.TheVariants.{Admit, Shutdown};
 ghost use Rattle.span_tracing_outputs.specs.sinks.AnySinks.{CallsAny, CallsQueue, WorksIf, admit_reply, appender_of};
-ghost use Rattle.span_tracing_outputs.specs.sinks.AnySinks.{missed_by, shutdown_reply};
+ghost use Rattle.span_tracing_outputs.specs.sinks.AnySinks.{holds_line, missed_by, shutdown_reply};
 
 use crate::LineSink;
 use crate::sinks::sink::RollingSink;
@@ -83,6 +83,16 @@ impl<D: Folder> AnySink<D> {
                 QueueCall::Admit => admit(sink),
                 QueueCall::Shutdown => shutdown(sink),
             },
+        }
+    }
+
+    /// Whether a line is held beside its queue.
+    pub fn is_holding(&self) -> bool
+        ensures { result ≡ holds_line self.now }
+    {
+        match self {
+            AnySink::Direct(_) => false,
+            AnySink::Queued(sink) => sink.is_holding(),
         }
     }
 

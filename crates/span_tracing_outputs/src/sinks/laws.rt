@@ -2,11 +2,14 @@
 ghost use Rattle.span_tracing_outputs.specs.sinks.AnySinks.{KindsStay};
 ghost use Rattle.span_tracing_outputs.specs.sinks.Fates.{CountsAreExact, DropsAreCounted, KeptLinesGoInTurn, LinesReachFiles, RunsAreTold};
 ghost use Rattle.span_tracing_outputs.specs.sinks.OutputRuns.{EachComposes};
+ghost use Rattle.span_tracing_outputs.specs.sinks.QueueFiles.{QueuesStand};
 ghost use Rattle.span_tracing_outputs.specs.sinks.Routed.{RoutedTakeTheirs};
 ghost use Rattle.span_tracing_outputs.specs.sinks.Runs.{RunsCompose};
+ghost use Rattle.span_tracing_outputs.specs.sinks.SinkTurns.{SinksMeetTheirs};
 ghost use Rattle.span_tracing_outputs.specs.sinks.LinesInFiles.{LinesStandInFiles};
 
 use crate::LineSink;
+use tracing_appender_queue::drops_are_exact;
 use tracing_appender_rolling::Folder;
 
 /// Runs of lines follow one another as their lists do, and what a sink takes at one moment is a run.
@@ -33,6 +36,23 @@ pub fn routed_sinks_take_theirs<S: LineSink>()
 pub fn kinds_stay<D: Folder>()
     ensures { KindsStay D.contents D.failed }
 {}
+
+/// Each sink of a stack meets just what comes to it, step by step: the lines that its output's route sends there, and the calls on its queue,
+/// whatever comes to the others. A direct sink takes its lines as its rolling file does. Of a queued one each line and each call does as the
+/// queue says.
+pub fn sinks_meet_theirs<D: Folder>()
+    ensures { SinksMeetTheirs D.contents D.failed }
+{}
+
+/// Which bytes stand in the files of a queued sink after lines and calls on its queue, where no line found no memory and the appender agreed
+/// with a sink before: exactly the lines that the steps of workers took, each handed over at its step's moment, stand in the files that
+/// retention left, behind what was found there and handed over before. What waits, is held and was counted then follows from what waited
+/// before.
+pub fn queued_lines_stand_in_files<D: Folder>()
+    ensures { QueuesStand D.contents D.failed }
+{
+    drops_are_exact();
+}
 
 /// Each line of a run has one fate. With these fates the count of dropped lines is exact, and all holds that an
 /// appender promises of its writes: over a folder of known contents which looks, removals, openings and writes were

@@ -1,7 +1,7 @@
 //! The sinks of an output, and the route by which lines go to them.
 ghost use Rattle.std.specs.Prelude.{◌≡◌, ◌∷◌, [], IfOk};
 ghost use Rattle.span_tracing_outputs.specs.sinks.Routed.{EachFrom, RoutingGives, TakesIf, TakesSent, goes_to};
-ghost use Rattle.span_tracing_outputs.specs.sinks.SinkCalls.{CallsRouted};
+ghost use Rattle.span_tracing_outputs.specs.sinks.SinkCalls.{CallsRouted, some_hold};
 
 use crate::LineSink;
 use crate::sink::copied;
@@ -175,7 +175,24 @@ impl<S: Drop> RoutedSinks<S> {
     }
 }
 
+// Whether a line is held beside the queue of one of these sinks.
+fn is_holding<D: Folder>(sinks: &[AnySink<D>]) -> bool
+    ensures { result ≡ some_hold sinks.now }
+{
+    match sinks {
+        [] => false,
+        [first, later @ ..] => first.is_holding() || is_holding(later),
+    }
+}
+
 impl<D: Folder> RoutedSinks<AnySink<D>> {
+    /// Whether a line is held beside the queue of a sink.
+    pub fn is_holding(&self) -> bool
+        ensures { result ≡ some_hold self.now.sinks }
+    {
+        is_holding(self.sinks.as_slice())
+    }
+
     /// Does this to the queue of the sink with this number among them, as [`AnySink::drive`]. Refused where there is no such sink
     /// (`UnknownSink`).
     pub fn drive(&mut self, number: usize, call: QueueCall) -> Reply

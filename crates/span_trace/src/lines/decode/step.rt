@@ -8,7 +8,7 @@ use crate::lines::fault::LineFault;
 use serde_json::Value as Json;
 use span_tracing_skeleton::{
     DefaultCall, EnabledCall, EventCall, FollowsCall, NewSpanCall, Parent, QueueCall, ResetCall,
-    Setting, SettingCall, SpanCall, SpanMoments, SpanName, Step,
+    Setting, SettingCall, SinkCall, SpanCall, SpanMoments, SpanName, Step,
 };
 use std::alloc::Global;
 use std::num::NonZeroU64;
@@ -24,8 +24,6 @@ pub enum StepLine {
     Record(RecordLine),
     /// An output's filter changes places with one of the shelf. The program keeps the shelf, so this is no `Step`.
     Swap(SwapLine),
-    /// Something is done to the queue of a sink, which is no `Step` either.
-    Queue(QueueStep),
 }
 
 /// An output whose filter changes places with one of the shelf.
@@ -34,14 +32,6 @@ pub struct SwapLine {
     pub output: usize,
     /// The filter's place on the shelf.
     pub shelf: usize,
-}
-
-/// Something that is done to the queue of a sink.
-#[derive(Clone, Copy, Drop)]
-pub struct QueueStep {
-    /// The number of the sink.
-    pub sink: usize,
-    pub call: QueueCall,
 }
 
 /// Values for a span.
@@ -70,7 +60,6 @@ pub(crate) fn step_line(
     match name {
         "record" => Ok(StepLine::Record(record_line(alloc, setup, members)?)),
         "swap_filter" => Ok(StepLine::Swap(swap_line(members)?)),
-        "work" | "admit" | "shutdown" => Ok(StepLine::Queue(queue_step(name, members)?)),
         _ => Ok(StepLine::Whole(whole_step(alloc, setup, name, members)?)),
     }
 }
@@ -90,6 +79,7 @@ fn whole_step(
         "exit" => Ok(Step::Exit(span_call(members)?)),
         "clone_span" => Ok(Step::CloneSpan(span_call(members)?)),
         "try_close" => Ok(Step::TryClose(span_call(members)?)),
+        "work" | "admit" | "shutdown" => Ok(Step::Queue(sink_call(name, members)?)),
         _ => hold_step(name, members),
     }
 }
@@ -106,8 +96,8 @@ fn hold_step(name: &str, members: Members<'_>) -> Result<Step, LineFault> {
     }
 }
 
-/// A step that does something to the queue of a sink.
-fn queue_step(name: &str, members: Members<'_>) -> Result<QueueStep, LineFault> {
+/// A call on the queue of a sink.
+fn sink_call(name: &str, members: Members<'_>) -> Result<SinkCall, LineFault> {
     let call = if name == "work" {
         members.only(&["do", "sink", "lines", "moment"])?;
         QueueCall::Work(members.size("lines")?, members.moment()?)
@@ -119,7 +109,7 @@ fn queue_step(name: &str, members: Members<'_>) -> Result<QueueStep, LineFault> 
             QueueCall::Shutdown
         }
     };
-    Ok(QueueStep {
+    Ok(SinkCall {
         sink: members.size("sink")?,
         call,
     })

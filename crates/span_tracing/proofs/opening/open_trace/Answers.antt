@@ -10,18 +10,18 @@ use Rattle.span_tracing.proofs.opening.open_trace.Goals as goal
 
 pub unreachable-requires : goal.unreachable-requires
 unreachable-requires g c =
-    c.in_default-set_global_default.not-Done
+    c.in_default-act.not-Done
     (opened _ outputs_in sinks_in registry_of stack_set
     (record { name = None; number = 1 }) c.in_ok-stack.stack c.in-Ok-add_stack.handle c.new-trace.result c.thread.new.self
-    c.add_stack.new.self c.set_global_default.result c.set_global_default.new.self c.new-trace.ensures c.in-Ok.ensures.ok
-    c.in-Ok-add_stack.ensures.gives c.set_global_default.ensures.gives).done
+    c.add_stack.new.self c.act.result c.act.new.self c.new-trace.ensures c.in-Ok.ensures.ok
+    c.in-Ok-add_stack.ensures.gives c.act.ensures).done
 
 pub returns-clause-ready : goal.returns-clause-ready
 returns-clause-ready g c =
-    λ honest. (c.set_global_default.ensures.follows (c.setup_follows.ensures.added sinks_in c.thread.new.self c.in_ok-stack.stack
+    λ honest. (c.plain_steps_follow.ensures.each _ (GlobalStep c.in-Ok-add_stack.handle) c.act.result _ (c.setup_follows.ensures.added sinks_in c.thread.new.self c.in_ok-stack.stack
     c.in-Ok-add_stack.handle c.add_stack.new.self
     (rw (c.in-Ok.ensures.ok, c.new-trace.ensures) (c.traces_start_ready.ensures.thread new_state _ c.traces_start_ready.ensures.new))
-    (c.in_ok-stack.ensures.ready honest) c.in-Ok-add_stack.ensures.gives).0).1
+    (c.in_ok-stack.ensures.ready honest) c.in-Ok-add_stack.ensures.gives).0 c.act.ensures).1
 
 pub returns-clause-opened : goal.returns-clause-opened
 returns-clause-opened g c =
@@ -31,12 +31,12 @@ returns-clause-opened g c =
       subst (StackStays (Some c.in_ok-stack.stack))
           (same_stack _ outputs_in sinks_in registry_of stack_set
           (record { name = None; number = 1 }) c.in_ok-stack.stack c.add_stack.new.self c.in-Ok-add_stack.handle
-          c.set_global_default.result
-          c.set_global_default.new.self
+          c.act.result
+          c.act.new.self
           (opened _ outputs_in sinks_in registry_of stack_set
           (record { name = None; number = 1 }) c.in_ok-stack.stack c.in-Ok-add_stack.handle c.new-trace.result
-          c.thread.new.self c.add_stack.new.self c.set_global_default.result c.set_global_default.new.self c.new-trace.ensures
-          c.in-Ok.ensures.ok c.in-Ok-add_stack.ensures.gives c.set_global_default.ensures.gives)
+          c.thread.new.self c.add_stack.new.self c.act.result c.act.new.self c.new-trace.ensures
+          c.in-Ok.ensures.ok c.in-Ok-add_stack.ensures.gives c.act.ensures)
           c.thread.new.self.hub.next (ap (λ v. v.hub.next) c.in-Ok.ensures.ok ∙ ap (λ v. v.hub.next) c.new-trace.ensures))
           (c.setup_follows.ensures.added sinks_in c.thread.new.self c.in_ok-stack.stack c.in-Ok-add_stack.handle c.add_stack.new.self
           (rw (c.in-Ok.ensures.ok, c.new-trace.ensures) (c.traces_start_ready.ensures.thread new_state _ c.traces_start_ready.ensures.new))
@@ -48,41 +48,41 @@ returns-clause-bare g c =
     ap (λ v. v.hub.callsites)
     (opened _ outputs_in sinks_in registry_of stack_set
     (record { name = None; number = 1 }) c.in_ok-stack.stack c.in-Ok-add_stack.handle c.new-trace.result c.thread.new.self
-    c.add_stack.new.self c.set_global_default.result c.set_global_default.new.self c.new-trace.ensures c.in-Ok.ensures.ok
-    c.in-Ok-add_stack.ensures.gives c.set_global_default.ensures.gives).set
+    c.add_stack.new.self c.act.result c.act.new.self c.new-trace.ensures c.in-Ok.ensures.ok
+    c.in-Ok-add_stack.ensures.gives c.act.ensures).set
 
 pub returns-clause-reached : goal.returns-clause-reached
 returns-clause-reached g c =
     let o = opened _ outputs_in sinks_in registry_of stack_set
     (record { name = None; number = 1 }) c.in_ok-stack.stack c.in-Ok-add_stack.handle c.new-trace.result
-    c.thread.new.self c.add_stack.new.self c.set_global_default.result c.set_global_default.new.self c.new-trace.ensures
-    c.in-Ok.ensures.ok c.in-Ok-add_stack.ensures.gives c.set_global_default.ensures.gives in
-    reaches_first (record { name = None; number = 1 }) o.count c.set_global_default.new.self o.stack o.hint o.greatest o.set
+    c.thread.new.self c.add_stack.new.self c.act.result c.act.new.self c.new-trace.ensures
+    c.in-Ok.ensures.ok c.in-Ok-add_stack.ensures.gives c.act.ensures in
+    reaches_first (record { name = None; number = 1 }) o.count c.act.new.self o.stack o.hint o.greatest o.set
 
 pub returns-clause-lane : goal.returns-clause-lane
 returns-clause-lane g c =
     ap (λ v. v.threads)
     (opened _ outputs_in sinks_in registry_of stack_set
     (record { name = None; number = 1 }) c.in_ok-stack.stack c.in-Ok-add_stack.handle c.new-trace.result c.thread.new.self
-    c.add_stack.new.self c.set_global_default.result c.set_global_default.new.self c.new-trace.ensures c.in-Ok.ensures.ok
-    c.in-Ok-add_stack.ensures.gives c.set_global_default.ensures.gives).set
+    c.add_stack.new.self c.act.result c.act.new.self c.new-trace.ensures c.in-Ok.ensures.ok
+    c.in-Ok-add_stack.ensures.gives c.act.ensures).set
 
 pub returns-clause-outputs : goal.returns-clause-outputs
 returns-clause-outputs g c =
     (opened _ outputs_in sinks_in registry_of stack_set
     (record { name = None; number = 1 }) c.in_ok-stack.stack c.in-Ok-add_stack.handle c.new-trace.result c.thread.new.self
-    c.add_stack.new.self c.set_global_default.result c.set_global_default.new.self c.new-trace.ensures c.in-Ok.ensures.ok
-    c.in-Ok-add_stack.ensures.gives c.set_global_default.ensures.gives).outputs
+    c.add_stack.new.self c.act.result c.act.new.self c.new-trace.ensures c.in-Ok.ensures.ok
+    c.in-Ok-add_stack.ensures.gives c.act.ensures).outputs
     ∙ ap (λ k. k ∷ []) (opened_count _ _ _ _ _ _ c.args.outputs.items c.in_ok-stack.stack c.in_ok-stack.ensures.opened)
 
 pub returns-clause-counted : goal.returns-clause-counted
 returns-clause-counted g c =
-    λ honest. c.traces_stay_counted.ensures.stepped c.add_stack.new.self (GlobalStep c.in-Ok-add_stack.handle) c.set_global_default.result
-    c.set_global_default.new.self
+    λ honest. c.traces_stay_counted.ensures.acted c.add_stack.new.self (GlobalStep c.in-Ok-add_stack.handle) c.act.result
+    c.act.new.self
     (c.setup_follows.ensures.added sinks_in c.thread.new.self c.in_ok-stack.stack c.in-Ok-add_stack.handle c.add_stack.new.self
     (rw (c.in-Ok.ensures.ok, c.new-trace.ensures) (c.traces_start_ready.ensures.thread new_state _ c.traces_start_ready.ensures.new))
     (c.in_ok-stack.ensures.ready honest) c.in-Ok-add_stack.ensures.gives).0
-    c.set_global_default.ensures.gives
+    c.act.ensures
     (c.traces_stay_counted.ensures.added sinks_in c.thread.new.self c.in_ok-stack.stack c.in-Ok-add_stack.handle c.add_stack.new.self
     (rw (c.in-Ok.ensures.ok, c.new-trace.ensures) (c.traces_start_ready.ensures.thread new_state _ c.traces_start_ready.ensures.new))
     (c.in_ok-stack.ensures.ready honest) c.in-Ok-add_stack.ensures.gives

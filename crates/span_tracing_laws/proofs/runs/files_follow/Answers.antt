@@ -3,5 +3,4 @@ use Rattle.span_tracing_laws.proofs.runs.files_follow.Goals as goal
 
 pub returns : goal.returns
 returns g c = files_follow g.D.Folder.contents g.D.Folder.failed g.N.FormatFields g.E.FormatEvent.line_of g.F.Filter _
-    c.each_sink_has_its_run.ensures c.routed_sinks_take_theirs.ensures c.lines_stand_in_files.ensures
-    c.kinds_stay.ensures
+    c.sinks_meet_theirs.ensures c.lines_stand_in_files.ensures c.queued_lines_stand_in_files.ensures

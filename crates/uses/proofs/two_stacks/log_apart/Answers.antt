@@ -1,14 +1,24 @@
-use Rattle.std.proofs.Common.{refl}
+use Rattle.std.proofs.Common.{ℕ, List, ap, refl}
+use Rattle.tracing_core.specs.PlainValue.{PlainValue}
+use Rattle.span_tracing_skeleton.specs.PlainData.{EventStep, OfTrace}
+use Rattle.span_tracing_skeleton.specs.declared.call.Parent.TheVariants.{Contextual}
+use Rattle.uses.proofs.Steps.{gives_named, gives_told}
 use Rattle.uses.proofs.two_stacks.log_apart.Goals as goal
 
 pub returns-clause-run : goal.returns-clause-run
-returns-clause-run c = rw (← c.message.ensures) (
+returns-clause-run c = (
   c.in-Guard.guard,
   c.reset_default-back.result,
-  rw (← c.in-Guard.is) (
+  (
     c.set_default.new.self,
-    c.set_default.ensures.gives,
-    (c.event-reply.new.self, c.event-reply.ensures.gives, (c.reset_default-back.new.self, c.reset_default-back.ensures.gives, refl)),
+    gives_told _ _ _ _ _ _ _ _ _ _ _ _ c.in-Guard.is c.set_default.ensures,
+    (
+      c.event-reply.new.self,
+      gives_named _ _ _ _ _ _ _ _ _ _ _ _
+          (ap (λ (vs : List (ℕ × PlainValue)). OfTrace (EventStep (record { lane = c.args.lane; moment = c.args.moment; callsite = c.args.callsite.0; parent = Contextual; values = vs }))) c.message.ensures)
+          c.event-reply.ensures,
+      (c.reset_default-back.new.self, c.reset_default-back.ensures.gives, refl),
+    ),
   ),
 )
 

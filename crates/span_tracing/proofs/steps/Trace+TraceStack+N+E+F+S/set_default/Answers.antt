@@ -1,8 +1,0 @@
-use Rattle.span_tracing.proofs.steps.Trace+TraceStack+N+E+F+S.set_default.Goals as goal
-
-pub returns : goal.returns
-returns g c = rw (← c.self.view_is)
-    (record {
-      gives = c.set_default.ensures.gives;
-      follows = λ ready. c.steps_follow.ensures _ _ _ _ ready c.set_default.ensures.gives;
-    })

@@ -1,0 +1,42 @@
+-- A step of a trace that is told, or answered, in another way.
+use Rattle.std.proofs.Common.{◌≡◌, ℕ, List, Option, subst}
+use Rattle.tracing_core.specs.PlainRequests.{PlainEvent}
+use Rattle.tracing_core.specs.Subscriber.{Ghosts as SubscriberGhosts}
+use Rattle.span_registry_layers.specs.Filter.{Ghosts as FilterGhosts}
+use Rattle.span_registry_layers.specs.Layer.{Ghosts as LayerGhosts}
+use Rattle.event_formatter_text.specs.declared.format_fields.FormatFields.{Ghosts}
+use Rattle.event_formatter_text.specs.declared.settings.Settings.{Settings}
+use Rattle.event_formatter.specs.formats.Contexts.{PlainContext}
+use Rattle.tracing_appender_rolling.specs.folders.Contents.{Contents}
+use Rattle.span_tracing_outputs.specs.TraceStacks.{TraceStackValue}
+use Rattle.span_tracing_outputs.specs.Turns.{Lines}
+use Rattle.span_tracing_outputs.specs.sinks.Routed.{Routed}
+use Rattle.span_tracing_outputs.specs.declared.sinks.any_sink.AnySink.{AnySink}
+use Rattle.span_tracing_skeleton.specs.PlainData.{AnyStep, OfTrace, PlainStep}
+use Rattle.span_tracing_skeleton.specs.declared.call.Reply.{Reply}
+use Rattle.span_tracing_skeleton.specs.declared.call.Reply.TheVariants.{Done}
+use Rattle.span_tracing_steps.specs.Steps.{StepGives}
+use Rattle.span_tracing_outputs.specs.OutputSettings.{stack_set}
+use Rattle.span_tracing_laws.specs.runs.StepFollows.{registry_of}
+use Rattle.span_tracing.proofs.StepsOfTraces.{done_step}
+use Rattle.span_tracing_laws.specs.runs.Files.{FileTrace}
+use Rattle.span_tracing.specs.Ready.{FileStepGives, IsStep}
+
+module _ {N E F D : Type 0} (contents : D → Option Contents) (failed : D → ℕ)
+    (s : SubscriberGhosts (TraceStackValue N E F (Routed (AnySink D)))) (n : Ghosts N)
+    (line_of : E → Settings → PlainContext → PlainEvent → Option (List ℕ)) (g : FilterGhosts F) (h : LayerGhosts (Lines N E))
+    (v : FileTrace N E F D) where
+  -- what a step gives, told as another one that is the same
+  pub gives_named : (a b : AnyStep) (reply : Reply) (w : FileTrace N E F D) → a ≡ b →
+      IsStep contents failed s n line_of g h v a reply w → FileStepGives contents failed s v b reply w
+  gives_named a b reply w is step = subst (λ x. FileStepGives contents failed s v x reply w) is step.gives
+
+  -- and with its answer
+  pub gives_told : (a : AnyStep) (reply other : Reply) (w : FileTrace N E F D) → reply ≡ other →
+      IsStep contents failed s n line_of g h v a reply w → FileStepGives contents failed s v a other w
+  gives_told a reply other w is step = subst (λ r. FileStepGives contents failed s v a r w) is step.gives
+
+  -- a step that is answered to be done
+  pub gives_done : (step : PlainStep) (reply : Reply) (w : FileTrace N E F D) → reply ≡ Done →
+      IsStep contents failed s n line_of g h v (OfTrace step) reply w → StepGives s registry_of stack_set v step reply w
+  gives_done step reply w done is = done_step contents failed s v step reply w is.gives done
