@@ -8,6 +8,7 @@ mod files;
 mod holders;
 mod model;
 mod outputs;
+mod queue_script;
 mod queues;
 mod random;
 mod single;

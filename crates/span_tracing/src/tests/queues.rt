@@ -83,17 +83,31 @@ fn lines_of_a_lossy_queue_are_counted(rt: HostRuntime) -> Result<(), Fail> {
 fn lines_of_a_waiting_queue_are_held_or_lost(rt: HostRuntime) -> Result<(), Fail> {
     let mut trace = trace_of(rt.alloc(), 1, false)?;
     tell(&rt, &mut trace, "a");
+    assert!(rt; !trace.is_busy());
     tell(&rt, &mut trace, "b");
-    tell(&rt, &mut trace, "c");
-    assert_eq!(rt; queued(&trace)?.held(), 2);
+    // while it is held, other steps are refused, whatever else is wrong with them
+    assert!(rt; trace.is_busy());
+    let parent = Parent::Contextual;
+    assert_eq!(rt;
+        trace.event(9, MONDAY, HELLO, parent, &[]),
+        Reply::Refused(Refusal::Busy)
+    );
+    assert_eq!(rt; trace.set_ansi(9, true), Reply::Refused(Refusal::Busy));
+    let mut filter = LevelFilter::OFF;
+    assert_eq!(rt;
+        trace.swap_filter(0, &mut filter),
+        Reply::Refused(Refusal::Busy)
+    );
+    assert_eq!(rt; filter, LevelFilter::OFF);
+    assert_eq!(rt; queued(&trace)?.held(), 1);
     assert_eq!(rt; trace.admit(0), Reply::Refused(Refusal::NoRoom));
     assert_eq!(rt; trace.work(0, 9, MONDAY), Reply::Worked(1));
     assert_eq!(rt; trace.shutdown(0), Reply::Done);
     assert_eq!(rt; trace.work(0, 0, MONDAY), Reply::Worked(0));
-    // the queue is closed: each held line is given up, and a later one is lost
+    // the queue is closed: the held line is given up, and a later one is lost
     assert_eq!(rt; trace.admit(0), Reply::Refused(Refusal::Closed));
+    assert!(rt; !trace.is_busy());
     assert_eq!(rt; queued(&trace)?.faults().writes, 0);
-    assert_eq!(rt; trace.admit(0), Reply::Refused(Refusal::Closed));
     tell(&rt, &mut trace, "d");
     let sink = queued(&trace)?;
     assert_eq!(rt;

@@ -113,13 +113,15 @@ impl HasOutputs for Keeper {
 }
 
 impl HasSinks for Keeper {
-    ghost use Rattle.std.specs.Prelude.{◌≡◌, refl, ap};
+    ghost use Rattle.std.specs.Prelude.{◌≡◌, false, refl, ap};
     ghost use Rattle.span_tracing_skeleton.specs.declared.call.Reply.TheVariants.{Refused};
     ghost use Rattle.span_tracing_skeleton.specs.declared.refusal.Refusal.TheVariants.{UnknownSink};
 
     ghost sinks_in = { λ x. 0 };
 
     ghost drives = { λ x number call reply y. (reply ≡ Refused UnknownSink) × (y ≡ x) };
+
+    ghost holds = { λ x. false };
 
     ghost spans_stay = { λ x number call reply y goes. ap (λ k. k.registry) goes.1 };
 
@@ -134,6 +136,10 @@ impl HasSinks for Keeper {
 
     fn sink_count(&self) -> usize {
         0
+    }
+
+    fn is_holding(&self) -> bool {
+        false
     }
 
     fn drive(&mut self, _number: usize, _call: QueueCall) -> Reply {
