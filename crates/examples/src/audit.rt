@@ -82,7 +82,7 @@ fn audit(trace: &mut AuditTrace, acted: Site, action: Action) -> bool {
         action = done,
         account = account
     );
-    told == Ok(()) && trace.lost(0, 0) == Some(0)
+    told == Ok(()) && trace.lost(0) == Some(0)
 }
 
 /// Whether each action was written, and none was lost.

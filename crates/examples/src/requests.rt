@@ -103,7 +103,7 @@ fn serve_all(rt: &HostRuntime) -> Result<bool, OpenStackError> {
     let sites = register(&mut trace)?;
     let first = serve(&mut trace, sites, moment_at(0), 7);
     let second = serve(&mut trace, sites, moment_at(1), 8);
-    let is_whole = trace.lost(0, 0) == Some(0) && trace.lost(0, 1) == Some(0);
+    let is_whole = trace.lost(0) == Some(0) && trace.lost(1) == Some(0);
     Ok(first == Ok(()) && second == Ok(()) && is_whole)
 }
 

@@ -2,9 +2,11 @@
 use Rattle.std.specs.Prelude.{ℕ, List, [], ◌∷◌, Bool, true, false, ◌&&◌, codes, is_some, Option, Some, None, if◌then◌else◌}
 use Rattle.std.specs.Str.{bytes_eq}
 use Rattle.span_trace_bench.specs.declared.bench.Bench.{Bench}
-use Rattle.span_trace_bench.specs.declared.bench.Bench.TheVariants.{DirectMemory, EventText, DirectFile, TwoOutputs, JsonMemory, Queued, Never, NeverSkipped}
+use Rattle.span_trace_bench.specs.declared.bench.Bench.TheVariants.{DirectMemory, EventText, DirectFile, TwoOutputs, JsonMemory, Queued}
+use Rattle.span_trace_bench.specs.declared.bench.Bench.TheVariants.{Never, NeverSkipped}
 use Rattle.span_trace_bench.specs.declared.bench.Bench.TheVariants.{Refused, Depth64, Open10k, Callsites1k, SpanCycle, SpanCycle10k}
-use Rattle.span_trace_bench.specs.declared.bench.Bench.TheVariants.{CloseOldest10k, Entered64, Open, FormatFull, FormatCompact, FormatPretty, FormatJson}
+use Rattle.span_trace_bench.specs.declared.bench.Bench.TheVariants.{CloseOldest10k, Entered64, Open, FormatFull, FormatCompact}
+use Rattle.span_trace_bench.specs.declared.bench.Bench.TheVariants.{FormatPretty, FormatJson}
 
 abbrev pub name_of : Bench → List ℕ
 name_of DirectMemory = codes "direct_memory"
@@ -30,7 +32,8 @@ name_of FormatPretty = codes "format_pretty"
 name_of FormatJson = codes "format_json"
 
 abbrev pub all_benches : List Bench
-all_benches = DirectMemory ∷ EventText ∷ DirectFile ∷ TwoOutputs ∷ JsonMemory ∷ Queued ∷ Never ∷ NeverSkipped ∷ Refused ∷ Depth64 ∷ Open10k ∷ Callsites1k
+all_benches = DirectMemory ∷ EventText ∷ DirectFile ∷ TwoOutputs ∷ JsonMemory ∷ Queued ∷ Never ∷ NeverSkipped ∷ Refused ∷ Depth64 ∷
+    Open10k ∷ Callsites1k
     ∷ SpanCycle
     ∷ SpanCycle10k ∷ CloseOldest10k ∷ Entered64 ∷ Open ∷ FormatFull ∷ FormatCompact ∷ FormatPretty ∷ FormatJson ∷ []
 

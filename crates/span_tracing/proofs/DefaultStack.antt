@@ -1,5 +1,7 @@
 -- The first stack of a trace with one lane, made the global default.
-use Rattle.std.proofs.Common.{◌≡◌, ℕ, inl, inr, true, false, List, [], ◌∷◌, length, map, Option, Some, None, Ok, refl, ap, sym, ◌∙◌, subst}
+use Rattle.std.proofs.Common.{◌≡◌, ◌+◌, ℕ, inl, inr, true, false, List, [], ◌∷◌, length, map, Option, Some, None, Ok, refl, ap, sym}
+use Rattle.std.proofs.Common.{◌∙◌, subst}
+use Rattle.std.specs.Prelude.{min}
 use Rattle.std.proofs.lemmas.List.{length-map}
 use Rattle.tracing_core_moments.specs.declared.moment.Moment.{Moment}
 use Rattle.tracing_appender_rolling.specs.folders.Contents.{Contents}
@@ -13,9 +15,10 @@ use Rattle.span_tracing_outputs.specs.OutputSettings.{outputs_in}
 use Rattle.span_tracing_outputs.specs.SinkLines.{cleared_row}
 use Rattle.span_tracing_outputs.specs.TraceStacks.{TraceStackValue}
 use Rattle.event_formatter.specs.fmt_layer.Threads.{PlainLane}
-use Rattle.span_tracing_outputs.specs.files.OpenedStack.{OpensRouting, OpensStack, Pairs, routing_of}
+use Rattle.span_tracing_outputs.specs.files.OpenedStack.{OpensRouting, OpensSink, OpensStack, Pairs, routing_of}
 use Rattle.span_tracing_outputs.specs.files.Settings.{Shown}
 use Rattle.span_tracing_outputs.specs.sinks.Routed.{Routed}
+use Rattle.span_tracing_outputs.specs.sinks.SinkCalls.{sinks_in, sinks_of}
 use Rattle.span_tracing_outputs.specs.declared.files.output_spec.OutputSpec.{OutputSpec}
 use Rattle.span_tracing_outputs.specs.declared.sinks.any_sink.AnySink.{AnySink}
 use Rattle.tracing_core_fields.specs.declared.requests.subscriber.Subscriber.{Ghosts}
@@ -37,7 +40,7 @@ use Rattle.span_tracing_steps.specs.Steps.{StepGives, with_global}
 use Rattle.span_tracing_steps.specs.contracts.callsite.TraceCallsiteCallsite.TheImpl.{ghosts}
 use Rattle.span_tracing_steps.specs.declared.callsite.TraceCallsite.{TraceCallsite}
 use Rattle.span_tracing_laws.specs.runs.StepFollows.{Traced}
-use Rattle.span_tracing.specs.OpenedTrace.{ReachesFirst}
+use Rattle.span_tracing.specs.OpenedTrace.{ReachesFirst, sinks_asked}
 
 module _ {T : Type 0} where
   -- a stack with its handle, which told its hint
@@ -111,7 +114,8 @@ module _ {T : Type 0} (s : Ghosts T) (outputs_in sinks_in : T → ℕ) where
       )
 
   -- the first stack of a trace with one lane
-  first_added : (thread : PlainThread) (x : T) (handle : ℕ) (v : StateValue T) → AddGives s outputs_in sinks_in (with_thread new_state thread) x
+  first_added : (thread : PlainThread) (x : T) (handle : ℕ) (v : StateValue T) →
+      AddGives s outputs_in sinks_in (with_thread new_state thread) x
       (Ok handle) v →
       (handle ≡ 0) × ((y : T) × (top : Option ℕ) × (v ≡ first_state thread (counts x) y top v.hub.greatest))
   first_added thread x handle v (number, (told, (z, moved, formed)), is) =
@@ -136,6 +140,7 @@ module _ {T : Type 0} (s : Ghosts T) (outputs_in sinks_in : T → ℕ) where
       pub done : reply ≡ Done
       pub set : w ≡ opened_state thread count stack hint greatest
       pub outputs : w.outputs ≡ outputs_in x ∷ []
+      pub sinks : w.sinks ≡ sinks_in x ∷ []
 
     pub opens : (thread : PlainThread) (x : T) (handle : ℕ) (v : StateValue T) (reply : Reply) (w : StateValue T) →
         AddGives s outputs_in sinks_in (with_thread new_state thread) x (Ok handle) v → StepGives s registry_of set_of v
@@ -154,6 +159,7 @@ module _ {T : Type 0} (s : Ghosts T) (outputs_in sinks_in : T → ℕ) where
           done = set.0;
           set = set.1;
           outputs = ap (λ (u : StateValue T). u.outputs) set.1;
+          sinks = ap (λ (u : StateValue T). u.sinks) set.1;
         }
 
     -- of a trace that was new before
@@ -196,3 +202,19 @@ module _ {F D : Type 0} (contents : D → Option Contents) (failed : D → ℕ) 
       ∙ sym o.paired.0
       ∙ same_length (OpensRouting contents failed m) (map routing_of specs) made.sinks o.sinks
       ∙ length-map specs routing_of
+
+  asked_opened : (specs : List (OutputSpec F D)) (rs : List (Routed (AnySink D))) →
+      Pairs (OpensRouting contents failed m) (map routing_of specs) rs → sinks_of rs ≡ sinks_asked specs
+  asked_opened [] [] pairs = refl
+  asked_opened [] (r ∷ rs) pairs = absurd pairs
+  asked_opened (spec ∷ specs) [] pairs = absurd pairs
+  asked_opened (spec ∷ specs) (r ∷ rs) pairs =
+      ap (λ (k : ℕ). min (k + length r.sinks) 18446744073709551615) (asked_opened specs rs pairs.1)
+      ∙ ap (λ (k : ℕ). min (sinks_asked specs + k) 18446744073709551615)
+      (same_length (OpensSink contents failed m) spec.sinks.items r.sinks pairs.0.sinks)
+
+  -- and as many sinks
+  pub opened_sinks : (specs : List (OutputSpec F D))
+      (made : TraceStackValue Fields (Format LineFormat Timer) F (Routed (AnySink D))) →
+      OpensStack contents failed g h m lanes specs made → sinks_in made ≡ sinks_asked specs
+  opened_sinks specs made o = asked_opened specs made.sinks o.sinks

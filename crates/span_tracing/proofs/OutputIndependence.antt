@@ -26,7 +26,8 @@ use Rattle.span_tracing_skeleton.specs.Skeleton.{Skeleton, Answers, Unasked, Wan
 use Rattle.span_tracing_skeleton.specs.declared.call.SpanName.{SpanName}
 use Rattle.span_tracing_skeleton.specs.declared.setting.Setting.{Setting}
 use Rattle.span_tracing_skeleton.specs.declared.refusal.Refusal.{Refusal}
-use Rattle.span_tracing_laws.specs.runs.Runs.{Plain, StepWithMask, Went, Drove, Starved, Waited, lines_left, lines_of, none_for, outs_left, plain_after}
+use Rattle.span_tracing_laws.specs.runs.Runs.{Plain, StepWithMask, Went, Drove, Starved, Waited, lines_left, lines_of, none_for, outs_left}
+use Rattle.span_tracing_laws.specs.runs.Runs.{plain_after}
 use Rattle.span_tracing_laws.specs.runs.Runs.{plain_run, turn_lines}
 use Rattle.span_tracing_laws.specs.runs.StepSettings.{OutputSetting, outs_with, setting_of}
 use Rattle.span_tracing_laws.specs.runs.StepNotices.{Told, event_told_by, span_told_by, values_told_by, told_by, told_of, told_to}
@@ -281,10 +282,12 @@ module _ {N : Type 0} (n : Ghosts N) (stack place : ℕ) where
       let alike = set_alike stack place set (outs stack) (others stack) same in (
         record {
           skeleton = refl;
-          out = outs_alike n place (outs_with stack set (outs stack)) (outs_with stack set (others stack)) fates other_fates alike told local
+          out = outs_alike n place (outs_with stack set (outs stack)) (outs_with stack set (others stack)) fates other_fates alike told
+              local
               fated;
         },
-        lines_alike n place (outs_with stack set (outs stack)) (outs_with stack set (others stack)) fates other_fates alike told local fated,
+        lines_alike n place (outs_with stack set (outs stack)) (outs_with stack set (others stack)) fates other_fates alike told local
+            fated,
       )
 
   turn_alike : (p q : Plain N) (t u : StepWithMask) → AreAlikeAt stack place p q → GoAlikeAt N p.skeleton stack place t u →

@@ -1,5 +1,6 @@
 -- Runs grow by a step.
-use Rattle.std.proofs.Common.{◌≡◌, Bool, true, false, ℕ, ◌+◌, ◌<◌, List, [], ◌∷◌, ◌++◌, length, take, map, get_or, refl, sym, ap, ◌∙◌, subst}
+use Rattle.std.proofs.Common.{◌≡◌, Bool, true, false, ℕ, ◌+◌, ◌<◌, List, [], ◌∷◌, ◌++◌, length, take, map, get_or, refl, sym, ap, ◌∙◌}
+use Rattle.std.proofs.Common.{subst}
 use Rattle.std.proofs.Common.{IfOk, Option, Result, Ok, Err}
 use Rattle.std.proofs.lemmas.List.{take_more, map-append}
 use Rattle.tracing_core_fields.specs.declared.requests.subscriber.Subscriber.{Ghosts}

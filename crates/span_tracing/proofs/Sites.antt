@@ -91,7 +91,8 @@ module _ {T : Type 0} (g : Ghosts T) where
 
   pub is_there : (v w : StateValue T) (m : PlainMetadata) (k : PlainInterest) → RegisterGives g v m (Ok k) w →
       None ≡ named (callsites_of w.hub.callsites) m.callsite → ⊥
-  is_there v w m k gives none = absurd (let is : is_some (named (callsites_of w.hub.callsites) m.callsite) ≡ true = there v w m k gives in cc)
+  is_there v w m k gives none = absurd (let is : is_some (named (callsites_of w.hub.callsites) m.callsite) ≡ true =
+      there v w m k gives in cc)
 
   -- a refusal that is handed on
   pub refuses : (v w : StateValue T) (m : PlainMetadata) (r : Result Site Refusal) (refusal : Refusal) → IsErrAnd r (λ e. e ≡ refusal) →

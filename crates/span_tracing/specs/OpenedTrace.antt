@@ -1,5 +1,5 @@
 -- A trace that was opened with its outputs.
-use Rattle.std.specs.Prelude.{◌≡◌, ℕ, [], ◌∷◌, List, Option, Some}
+use Rattle.std.specs.Prelude.{◌≡◌, ◌+◌, ℕ, min, [], ◌∷◌, length, List, Option, Some}
 use Rattle.tracing_core_moments.specs.declared.moment.Moment.{Moment}
 use Rattle.tracing_appender_rolling.specs.folders.Contents.{Contents}
 use Rattle.span_registry_layers_layers.specs.declared.filter.Filter.{Ghosts as FilterGhosts}
@@ -27,6 +27,11 @@ module _ {F D : Type 0} (contents : D → Option Contents) (failed : D → ℕ) 
   HasOutputs specs stack =
       (made : TraceStackValue Fields (Format LineFormat Timer) F (Routed (AnySink D))) ×
       OpensStack contents failed g h m [] specs made × StackStays (Some made) stack
+
+-- how many sinks outputs ask for; the number stops at the greatest one
+abbrev pub sinks_asked : {F D : Type 0} → List (OutputSpec F D) → ℕ
+sinks_asked [] = 0
+sinks_asked (spec ∷ specs) = min (sinks_asked specs + length spec.sinks.items) 18446744073709551615
 
 -- the trace has one stack, one lane, one handle and no guard: the lane reaches the stack, by the global default
 pub record ReachesFirst {N E F S : Type 0} (v : Traced N E F S) : Type 0 where

@@ -36,15 +36,16 @@ abbrev pub FileRunGives : {N E F D : Type 0} → (D → Option Contents) → (D 
 FileRunGives contents failed s road v steps replies w =
     RunGives s registry_of stack_set (drives (CallsIn contents failed)) (holds outputs_hold) road v steps replies w
 
--- A step: what the trace's parts make of it. Where the trace is ready, as it is where it has no stack, when a ready stack was added, and after
--- each step, the step is refused while a line is held, or follows the skeleton and the output machines, or is a call on a sink's queue, which
--- leaves the skeleton and the outputs as they were; and it leaves the trace ready.
+-- A step: what the trace's parts make of it. Where the trace is ready, as it is where it has no stack, when a ready stack was added, and
+-- after each step, the step is refused while a line is held, or follows the skeleton and the output machines, or is a call on a sink's
+-- queue, which leaves the skeleton and the outputs as they were; and it leaves the trace ready.
 pub record IsStep {N E F D : Type 0} (contents : D → Option Contents) (failed : D → ℕ)
     (s : SubscriberGhosts (TraceStackValue N E F (Routed (AnySink D)))) (n : Ghosts N)
     (line_of : E → Settings → PlainContext → PlainEvent → Option (List ℕ)) (g : FilterGhosts F) (h : LayerGhosts (Lines N E))
     (v : FileTrace N E F D) (step : AnyStep) (reply : Reply) (w : FileTrace N E F D) : Type 0 where
   pub gives : FileStepGives contents failed s v step reply w
-  pub follows : TraceIsReady g h v → AnyFollows n line_of g (TakesRouted (TakesAny contents failed)) (CallsIn contents failed) outputs_hold h v
+  pub follows : TraceIsReady g h v → AnyFollows n line_of g (TakesRouted (TakesAny contents failed)) (CallsIn contents failed)
+      outputs_hold h v
       step reply w × TraceIsReady g h w
 
 -- so does a run on each road, and its sinks and files are told of

@@ -11,6 +11,7 @@ ghost use Rattle.span_tracing_outputs.specs.declared.files.output_spec.OutputSpe
 use event_formatter::FormatEvent;
 use event_formatter_text::FormatFields;
 use span_registry_layers_layers::{Filter, Layer};
+pub use span_tracing_laws::{calls_may_change_places, queues_count_exactly, work_may_be_cut};
 use span_tracing_outputs::PendingLines;
 use tracing_core_fields::LevelFilter;
 
@@ -29,8 +30,8 @@ pub fn leveled_outputs_are_honest<D>()
         Every (λ (spec : OutputSpec LevelFilter D). ⟦<LevelFilter as Filter>⟧.honest spec.filter) outputs }
 {}
 
-/// A new trace is ready. A lane leaves a ready trace so, and so does taking a stack that was released. With `setup_follows` a trace is ready
-/// for its next step, as long as each stack that is added is ready.
+/// A new trace is ready. A lane leaves a ready trace so, and so does taking a stack that was released. With `setup_follows` a trace is
+/// ready for its next step, as long as each stack that is added is ready.
 #[tactic(auto, using(crate::proofs::FirstTraces::traces_start_ready))]
 pub fn traces_start_ready<N: FormatFields + Drop, E: FormatEvent, F: Filter, S>()
     ensures { StartsReady ⟦<F as Filter>⟧ ⟦<event_formatter::Layer<N, E, PendingLines> as Layer>⟧ S }

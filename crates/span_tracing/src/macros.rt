@@ -1,6 +1,7 @@
 //! Requests that read like log lines.
 
-/// Tells an event of a [`Site`](crate::Site), in the lane's current span of the stack that the lane reaches: `event!(trace, lane, moment, site, field = value, ..)`.
+/// Tells an event of a [`Site`](crate::Site), in the lane's current span of the stack that the lane reaches: `event!(trace, lane, moment,
+/// site, field = value, ..)`.
 ///
 /// Each field of the site may be given a value, in any order; one that is given none is left out. A value is anything that has
 /// [`Value`](crate::value::Value): numbers, bools, texts that are owned or lent, bytes, what [`display`](crate::value::display) and

@@ -2,7 +2,7 @@
 ghost use Rattle.std.specs.Prelude.{◌≡◌, ◌∷◌, [], Err, IfOk, None, length, true, false};
 ghost use Rattle.tracing_core_fields.specs.requests.Lists.{Every};
 ghost use Rattle.tracing_core_moments.specs.Moments.{is_moment};
-ghost use Rattle.span_tracing.specs.OpenedTrace.{HasOutputs, ReachesFirst};
+ghost use Rattle.span_tracing.specs.OpenedTrace.{HasOutputs, ReachesFirst, sinks_asked};
 ghost use Rattle.span_tracing_laws.specs.runs.StepFollows.{TraceIsReady, skeleton_of};
 ghost use Rattle.span_tracing_skeleton.specs.Counting.{IsCounted};
 ghost use Rattle.span_tracing_steps.specs.States.{stack_in};
@@ -23,9 +23,9 @@ use std::alloc::Global;
 use tracing_appender_rolling::Folder;
 use tracing_core_moments::Moment;
 
-/// A trace with one stack of these outputs, whose files are opened at the moment, and with one lane. The stack, its handle and the lane have
-/// the number 0. The stack is the global default, so that what the lane tells reaches the outputs. The lane's thread has no name and the
-/// number 1.
+/// A trace with one stack of these outputs, whose files are opened at the moment, and with one lane. The stack, its handle and the lane
+/// have the number 0. The stack is the global default, so that what the lane tells reaches the outputs. The lane's thread has no name and
+/// the number 1.
 ///
 /// # Errors
 ///
@@ -40,8 +40,8 @@ pub fn open_trace<F: Filter, D: Folder>(
     // At a moment in range, no output, more than 64 outputs, or two with one key are refused; out of memory may be answered instead.
     ensures told { is_moment moment ≡ true → Answers (outputs_refusal outputs.items) result }
     // Where each output's route is good, as `OutputSpec::new` makes it, the queues of a trace that is opened have room and its files good
-    // names, and the first that hasn't is refused ahead of what a folder refuses; out of memory may be answered instead. A folder's refusal is told only where the folder
-    // told a fault.
+    // names, and the first that hasn't is refused ahead of what a folder refuses; out of memory may be answered instead. A folder's refusal
+    // is told only where the folder told a fault.
     ensures names { is_moment moment ≡ true → outputs_refusal outputs.items ≡ None → Every IsRouted outputs.items →
         NamesAnswer D.failed outputs.items result }
     // With honest filters the trace is ready.
@@ -54,6 +54,8 @@ pub fn open_trace<F: Filter, D: Folder>(
         outputs.items (stack_in trace 0)) }
     // Its outputs have the numbers from 0 to below their count.
     ensures outputs { IfOk result (λ trace. trace.outputs ≡ length outputs.items ∷ []) }
+    // So have its sinks, through all outputs.
+    ensures sinks { IfOk result (λ trace. trace.sinks ≡ sinks_asked outputs.items ∷ []) }
     // With honest filters its stack is held by as many as it counts.
     ensures counted { Every (λ (spec : OutputSpec F D). F.honest spec.filter) outputs.items →
         IfOk result (λ trace. IsCounted (skeleton_of trace)) }

@@ -17,11 +17,12 @@ use tracing_core_moments::Moment;
 impl<N: FormatFields + Drop, E: FormatEvent, F: Filter, D: Folder> Trace<
     TraceStack<N, E, F, RoutedSinks<AnySink<D>>>,
 > {
-    /// A step of a worker: the first so many lines of a sink's queue, or all before its mark, go to the sink's files at the moment, and a mark
-    /// that then stands first closes the queue. It answers how many lines it took. Sinks are numbered from 0 through all stacks and their
-    /// outputs, in order; a stack may have been released, but not taken.
+    /// A step of a worker: the first so many lines of a sink's queue, or all before its mark, go to the sink's files at the moment, and a
+    /// mark that then stands first closes the queue. It answers how many lines it took. Sinks are numbered from 0 through all stacks and
+    /// their outputs, in order; a stack may have been released, but not taken.
     ///
-    /// Refused where there is no such sink (`UnknownSink`), where it has no queue (`NotQueued`), and at a moment out of range (`BadMoment`).
+    /// Refused where there is no such sink (`UnknownSink`), where it has no queue (`NotQueued`), and at a moment out of range
+    /// (`BadMoment`).
     pub fn work(&mut self, sink: usize, lines: usize, moment: Moment) -> Reply
         ensures { IsStep D.contents D.failed ⟦<TraceStack<N, E, F, RoutedSinks<AnySink<D>>> as Subscriber>⟧ ⟦<N as FormatFields>⟧ E.line_of
             ⟦<F as Filter>⟧ ⟦<Layer<N, E, PendingLines> as span_registry_layers_layers::Layer>⟧ self.old
@@ -33,8 +34,8 @@ impl<N: FormatFields + Drop, E: FormatEvent, F: Filter, D: Folder> Trace<
 
     /// Offers the first line that is held beside a sink's queue to the queue. Sinks are numbered as by [`work`](Trace::work).
     ///
-    /// Refused where there is no such sink (`UnknownSink`), where it has no queue (`NotQueued`), where no line is held (`NothingHeld`), where
-    /// the queue is closed (`Closed`; the line is given up then), where it has no room (`NoRoom`), and where there is no memory.
+    /// Refused where there is no such sink (`UnknownSink`), where it has no queue (`NotQueued`), where no line is held (`NothingHeld`),
+    /// where the queue is closed (`Closed`; the line is given up then), where it has no room (`NoRoom`), and where there is no memory.
     pub fn admit(&mut self, sink: usize) -> Reply
         ensures { IsStep D.contents D.failed ⟦<TraceStack<N, E, F, RoutedSinks<AnySink<D>>> as Subscriber>⟧ ⟦<N as FormatFields>⟧ E.line_of
             ⟦<F as Filter>⟧ ⟦<Layer<N, E, PendingLines> as span_registry_layers_layers::Layer>⟧ self.old
@@ -47,8 +48,8 @@ impl<N: FormatFields + Drop, E: FormatEvent, F: Filter, D: Folder> Trace<
     /// Puts the mark behind the lines that wait in a sink's queue. The queue closes when a step of a worker takes the mark, and what stands
     /// behind it then is left for good. Sinks are numbered as by [`work`](Trace::work). It takes no memory.
     ///
-    /// Refused where there is no such sink (`UnknownSink`), where it has no queue (`NotQueued`), where the mark was put before (`MarkSent`),
-    /// and where the queue has no room for it (`NoRoom`).
+    /// Refused where there is no such sink (`UnknownSink`), where it has no queue (`NotQueued`), where the mark was put before
+    /// (`MarkSent`), and where the queue has no room for it (`NoRoom`).
     pub fn shutdown(&mut self, sink: usize) -> Reply
         ensures { IsStep D.contents D.failed ⟦<TraceStack<N, E, F, RoutedSinks<AnySink<D>>> as Subscriber>⟧ ⟦<N as FormatFields>⟧ E.line_of
             ⟦<F as Filter>⟧ ⟦<Layer<N, E, PendingLines> as span_registry_layers_layers::Layer>⟧ self.old

@@ -1,8 +1,8 @@
 //! What can be read of a trace's outputs.
 ghost use Rattle.std.specs.Prelude.{◌≡◌};
 ghost use Rattle.std.specs.Option.{option_copied};
-ghost use Rattle.span_tracing.specs.OutputReaders.{lost_at, lost_by, lost_by_all, sink_at, starved_at};
-ghost use Rattle.span_tracing_steps.specs.States.{stack_in};
+ghost use Rattle.span_tracing.specs.OutputReaders.{lost_at, lost_by, lost_by_all, missed_by_all, starved_at, starved_in};
+ghost use Rattle.span_tracing_laws.specs.queue_steps.SinkPlaces.{sink_at};
 
 use crate::trace::Trace;
 use event_formatter::FormatEvent;
@@ -11,24 +11,45 @@ use span_registry_layers_layers::Filter;
 use span_tracing_outputs::{AnySink, LineSink, RoutedSinks, TraceStack};
 use tracing_appender_rolling::Folder;
 
-// What a sink lost: lines that it dropped, and lines that its folder didn't take whole; of a queued one also lines that came to its closed
-// queue, and those behind its mark.
+// How many texts and lines the output at a place of a stack missed before its sinks.
+fn starved_in<N: FormatFields + Drop, E: FormatEvent, F: Filter, S: LineSink>(
+    stack: &TraceStack<N, E, F, S>,
+    place: usize,
+) -> Option<usize>
+    ensures { result ≡ starved_in stack.now place }
+{
+    match stack.stack().output(place) {
+        Some(filtered) => Some(filtered.inner().starved() as usize),
+        None => None,
+    }
+}
+
+// How many lines found no memory at sinks, beside what was missed before.
+fn missed_by_all<D: Folder>(before: usize, sinks: &[AnySink<D>]) -> usize
+    ensures { result ≡ missed_by_all before sinks.now }
+{
+    let mut missed = before;
+    for sink in sinks {
+        missed = missed.saturating_add(sink.missed());
+    }
+    missed
+}
+
+// What a sink that had memory lost: lines that its folder didn't take whole; of a queued one also lines that it dropped, that came to its
+// closed queue, and those behind its mark.
 fn lost_by<D: Folder>(sink: &AnySink<D>) -> usize
     ensures { result ≡ lost_by sink.now }
 {
     match sink {
-        AnySink::Direct(sink) => sink
-            .dropped()
-            .saturating_add(sink.appender().faults().writes),
+        AnySink::Direct(sink) => sink.appender().faults().writes,
         AnySink::Queued(sink) => sink
             .dropped_lines()
-            .saturating_add(sink.missed())
             .saturating_add(sink.faults().writes)
             .saturating_add(sink.queue().left() as usize),
     }
 }
 
-// What sinks lost, beside what was lost before.
+// What sinks lost so, beside what was lost before.
 fn lost_by_all<D: Folder>(before: usize, sinks: &[AnySink<D>]) -> usize
     ensures { result ≡ lost_by_all before sinks.now }
 {
@@ -56,37 +77,41 @@ impl<N: FormatFields + Drop, E: FormatEvent, F: Filter, S: LineSink> Trace<
             },
         }
     }
-
-    /// How many texts of spans and lines the output at a place of a stack missed where memory ran out, at most `usize::MAX`. The stack may
-    /// have been released, as long as it isn't taken.
-    pub fn starved(&self, stack: usize, output: usize) -> Option<usize>
-        ensures { result ≡ starved_at (stack_in self.now stack) output }
-    {
-        match self.parts.stack(stack) {
-            Some(stack) => match stack.stack().output(output) {
-                Some(filtered) => Some(filtered.inner().starved() as usize),
-                None => None,
-            },
-            None => None,
-        }
-    }
 }
 
 impl<N: FormatFields + Drop, E: FormatEvent, F: Filter, D: Folder> Trace<
     TraceStack<N, E, F, RoutedSinks<AnySink<D>>>,
 > {
-    /// How many texts and lines of the output at a place of a stack are missing in its files, at most `usize::MAX`: those that found no
-    /// memory before its sinks or at one, lines that a folder didn't take whole, and lines that a queue dropped, that came to it once it was
-    /// closed, or that stood behind its mark then. Lines that wait aren't counted, nor held ones that were given up. A line that is missing at two sinks counts twice. The stack may have been released, as
-    /// long as it isn't taken.
-    pub fn lost(&self, stack: usize, output: usize) -> Option<usize>
-        ensures { result ≡ lost_at (stack_in self.now stack) output }
+    /// How many texts of spans and lines the output with this number missed where memory ran out, before its sinks or at one of them, at
+    /// most `usize::MAX`. A line that found no memory at two sinks counts twice. Outputs are numbered from 0 through all stacks. The stack
+    /// may have been released, as long as it isn't taken.
+    pub fn starved(&self, output: usize) -> Option<usize>
+        ensures { result ≡ starved_at self.now output }
     {
-        let starved = self.starved(stack, output)?;
-        let Some(found) = self.parts.stack(stack) else {
+        let at = self.parts.output_place(output)?;
+        let Some(stack) = self.parts.stack(at.stack) else {
             return None;
         };
-        match found.sinks().get(output) {
+        let before = starved_in(stack, at.place)?;
+        match stack.sinks().get(at.place) {
+            Some(routed) => Some(missed_by_all(before, routed.sinks())),
+            None => Some(before),
+        }
+    }
+
+    /// How many texts and lines of the output with this number are missing in its files, at most `usize::MAX`: those that found no memory
+    /// ([`starved`](Trace::starved)), lines that a folder didn't take whole, and lines that a queue dropped, that came to it once it was
+    /// closed, or that stood behind its mark then. Lines that wait aren't counted, nor held ones that were given up. A line that is missing
+    /// at two sinks counts twice. The stack may have been released, as long as it isn't taken.
+    pub fn lost(&self, output: usize) -> Option<usize>
+        ensures { result ≡ lost_at self.now output }
+    {
+        let starved = self.starved(output)?;
+        let at = self.parts.output_place(output)?;
+        let Some(stack) = self.parts.stack(at.stack) else {
+            return None;
+        };
+        match stack.sinks().get(at.place) {
             Some(routed) => Some(lost_by_all(starved, routed.sinks())),
             None => Some(starved),
         }

@@ -41,8 +41,8 @@ fn moments_of(events: FmtSpan) -> SpanMoments
 }
 
 impl<T: Subscriber + HasRegistry + HasOutputs + HasSinks> Trace<T> {
-    /// Whether a line is held beside the queue of a sink. Each step but those on queues is refused then (`Busy`), and changes nothing. A stack
-    /// that was taken doesn't count.
+    /// Whether a line is held beside the queue of a sink. Each step but those on queues is refused then (`Busy`), and changes nothing. A
+    /// stack that was taken doesn't count.
     pub fn is_busy(&self) -> bool
         ensures { result ≡ holds_in T.holds self.now }
     {
@@ -112,7 +112,8 @@ impl<T: Subscriber + HasRegistry + HasOutputs + HasSinks> Trace<T> {
 
     // A step; before it the trace asks anew, where that is wanted.
     fn act_by(&mut self, asks: bool, next: &Step) -> Reply
-        ensures { StepBy ⟦<T as Subscriber>⟧ T.registry_of T.set T.drives T.holds (road_of asks) self.old (any_step next.now) result self.new }
+        ensures { StepBy ⟦<T as Subscriber>⟧ T.registry_of T.set T.drives T.holds (road_of asks) self.old (any_step next.now) result
+            self.new }
     {
         if asks {
             self.parts.rebuild_interest_cache();
@@ -145,41 +146,29 @@ impl<N: FormatFields + Drop, E: FormatEvent, F: Filter, D: Folder> Trace<
             ⟦<F as Filter>⟧ ⟦<Layer<N, E, PendingLines> as span_registry_layers_layers::Layer>⟧ self.old
             (OfTrace (GlobalStep handle)) result self.new }
     {
-        steps_follow::<N, E, F, D>();
-        if self.parts.is_busy() {
-            return Reply::Refused(Refusal::Busy);
-        }
-        self.parts.set_global_default(handle)
+        self.step(&Step::SetGlobalDefault(handle))
     }
 
     /// Gives a lane a default of its own: the stack with this handle, which the lane holds from then on, or none, so that it reaches
-    /// nothing. Answers the number of a guard that keeps the default before. Refused for a lane or a handle that isn't there, a spent handle,
-    /// and where the stack has too many holders or there is no memory for the guard.
+    /// nothing. Answers the number of a guard that keeps the default before. Refused for a lane or a handle that isn't there, a spent
+    /// handle, and where the stack has too many holders or there is no memory for the guard.
     pub fn set_default(&mut self, lane: usize, handle: Option<usize>) -> Reply
         ensures { IsStep D.contents D.failed ⟦<TraceStack<N, E, F, RoutedSinks<AnySink<D>>> as Subscriber>⟧ ⟦<N as FormatFields>⟧ E.line_of
             ⟦<F as Filter>⟧ ⟦<Layer<N, E, PendingLines> as span_registry_layers_layers::Layer>⟧ self.old
             (OfTrace (DefaultStep (record { lane = lane; handle = handle }))) result self.new }
     {
-        steps_follow::<N, E, F, D>();
-        if self.parts.is_busy() {
-            return Reply::Refused(Refusal::Busy);
-        }
-        self.parts.set_default(&DefaultCall { lane, handle })
+        self.step(&Step::SetDefault(DefaultCall { lane, handle }))
     }
 
-    /// Gives a lane the default back that the guard with this number keeps, and spends the guard. Guards may be spent in any order. What the
-    /// lane had holds its stack no more; where nobody else does, the stack is released. Refused for a lane that isn't there, and for a guard
-    /// that is spent or isn't this lane's (`WrongLane`). Takes no memory.
+    /// Gives a lane the default back that the guard with this number keeps, and spends the guard. Guards may be spent in any order. What
+    /// the lane had holds its stack no more; where nobody else does, the stack is released. Refused for a lane that isn't there, and for a
+    /// guard that is spent or isn't this lane's (`WrongLane`). Takes no memory.
     pub fn reset_default(&mut self, lane: usize, guard: usize) -> Reply
         ensures { IsStep D.contents D.failed ⟦<TraceStack<N, E, F, RoutedSinks<AnySink<D>>> as Subscriber>⟧ ⟦<N as FormatFields>⟧ E.line_of
             ⟦<F as Filter>⟧ ⟦<Layer<N, E, PendingLines> as span_registry_layers_layers::Layer>⟧ self.old
             (OfTrace (ResetStep (record { lane = lane; guard = guard }))) result self.new }
     {
-        steps_follow::<N, E, F, D>();
-        if self.parts.is_busy() {
-            return Reply::Refused(Refusal::Busy);
-        }
-        self.parts.reset_default(&ResetCall { lane, guard })
+        self.step(&Step::ResetDefault(ResetCall { lane, guard }))
     }
 
     /// Takes one more handle of the stack with this handle, and answers its number. Refused for a handle that isn't there or is spent, and
@@ -189,11 +178,7 @@ impl<N: FormatFields + Drop, E: FormatEvent, F: Filter, D: Folder> Trace<
             ⟦<F as Filter>⟧ ⟦<Layer<N, E, PendingLines> as span_registry_layers_layers::Layer>⟧ self.old
             (OfTrace (CloneHandleStep handle)) result self.new }
     {
-        steps_follow::<N, E, F, D>();
-        if self.parts.is_busy() {
-            return Reply::Refused(Refusal::Busy);
-        }
-        self.parts.clone_handle(handle)
+        self.step(&Step::CloneHandle(handle))
     }
 
     /// Spends a handle. Where nobody else holds its stack, the stack is released, and waits for
@@ -203,29 +188,21 @@ impl<N: FormatFields + Drop, E: FormatEvent, F: Filter, D: Folder> Trace<
             ⟦<F as Filter>⟧ ⟦<Layer<N, E, PendingLines> as span_registry_layers_layers::Layer>⟧ self.old
             (OfTrace (ReleaseStep handle)) result self.new }
     {
-        steps_follow::<N, E, F, D>();
-        if self.parts.is_busy() {
-            return Reply::Refused(Refusal::Busy);
-        }
-        self.parts.release(handle)
+        self.step(&Step::Release(handle))
     }
 
     /// Sets whether the full and compact lines of an output, and the texts of spans that are made from now on, have styles. Texts that an
-    /// open span has already stay as they are. Outputs are numbered from 0 through all stacks, in the order in which they were added. Refused for an
-    /// output that isn't there (`NoOutput`), and for one of a released stack. Takes no memory.
+    /// open span has already stay as they are. Outputs are numbered from 0 through all stacks, in the order in which they were added.
+    /// Refused for an output that isn't there (`NoOutput`), and for one of a released stack. Takes no memory.
     pub fn set_ansi(&mut self, output: usize, has_styles: bool) -> Reply
         ensures { IsStep D.contents D.failed ⟦<TraceStack<N, E, F, RoutedSinks<AnySink<D>>> as Subscriber>⟧ ⟦<N as FormatFields>⟧ E.line_of
             ⟦<F as Filter>⟧ ⟦<Layer<N, E, PendingLines> as span_registry_layers_layers::Layer>⟧ self.old
             (OfTrace (SetStep (record { output = output; setting = Ansi has_styles }))) result self.new }
     {
-        steps_follow::<N, E, F, D>();
-        if self.parts.is_busy() {
-            return Reply::Refused(Refusal::Busy);
-        }
-        self.parts.set(&SettingCall {
+        self.step(&Step::Set(SettingCall {
             output,
             setting: Setting::Ansi(has_styles),
-        })
+        }))
     }
 
     /// Sets at which moments of a span an output has a line for it. Whether the line of a close shows the span's times is settled when the
@@ -235,14 +212,10 @@ impl<N: FormatFields + Drop, E: FormatEvent, F: Filter, D: Folder> Trace<
             ⟦<F as Filter>⟧ ⟦<Layer<N, E, PendingLines> as span_registry_layers_layers::Layer>⟧ self.old
             (OfTrace (SetStep (record { output = output; setting = SpanEvents (moments_of events) }))) result self.new }
     {
-        steps_follow::<N, E, F, D>();
-        if self.parts.is_busy() {
-            return Reply::Refused(Refusal::Busy);
-        }
-        self.parts.set(&SettingCall {
+        self.step(&Step::Set(SettingCall {
             output,
             setting: Setting::SpanEvents(moments_of(events)),
-        })
+        }))
     }
 
     /// Makes an event on a lane, for the stack that the lane reaches. A line that finds no memory is missing alone, and counted.
@@ -257,7 +230,13 @@ impl<N: FormatFields + Drop, E: FormatEvent, F: Filter, D: Folder> Trace<
     ) -> Reply
         ensures { IsStep D.contents D.failed ⟦<TraceStack<N, E, F, RoutedSinks<AnySink<D>>> as Subscriber>⟧ ⟦<N as FormatFields>⟧ E.line_of
             ⟦<F as Filter>⟧ ⟦<Layer<N, E, PendingLines> as span_registry_layers_layers::Layer>⟧ self.old
-            (OfTrace (EventStep (record { lane = lane; moment = moment; callsite = callsite.0; parent = parent; values = lent_entries values.now }))) result self.new }
+            (OfTrace (EventStep (record {
+              lane = lane;
+              moment = moment;
+              callsite = callsite.0;
+              parent = parent;
+              values = lent_entries values.now;
+            }))) result self.new }
     {
         steps_follow::<N, E, F, D>();
         if self.parts.is_busy() {
@@ -273,21 +252,18 @@ impl<N: FormatFields + Drop, E: FormatEvent, F: Filter, D: Folder> Trace<
     }
 
     /// Asks whether some output's filter of the stack that the lane reaches passes a callsite: by it a new span would be made, and an event
-    /// unless the filters refuse the event itself. It is `false` where the lane reaches no stack. Asking leaves no mark, and takes no memory.
+    /// unless the filters refuse the event itself. It is `false` where the lane reaches no stack. Asking leaves no mark, and takes no
+    /// memory.
     pub fn enabled(&mut self, lane: usize, moment: Moment, callsite: Identifier) -> Reply
         ensures { IsStep D.contents D.failed ⟦<TraceStack<N, E, F, RoutedSinks<AnySink<D>>> as Subscriber>⟧ ⟦<N as FormatFields>⟧ E.line_of
             ⟦<F as Filter>⟧ ⟦<Layer<N, E, PendingLines> as span_registry_layers_layers::Layer>⟧ self.old
             (OfTrace (EnabledStep (record { lane = lane; moment = moment; callsite = callsite }))) result self.new }
     {
-        steps_follow::<N, E, F, D>();
-        if self.parts.is_busy() {
-            return Reply::Refused(Refusal::Busy);
-        }
-        self.parts.enabled(&EnabledCall {
+        self.step(&Step::Enabled(EnabledCall {
             lane,
             moment,
             callsite,
-        })
+        }))
     }
 
     /// Makes a new span on a lane in the stack that the lane reaches, and answers its name, or none where it is dropped or the lane reaches
@@ -303,7 +279,13 @@ impl<N: FormatFields + Drop, E: FormatEvent, F: Filter, D: Folder> Trace<
     ) -> Reply
         ensures { IsStep D.contents D.failed ⟦<TraceStack<N, E, F, RoutedSinks<AnySink<D>>> as Subscriber>⟧ ⟦<N as FormatFields>⟧ E.line_of
             ⟦<F as Filter>⟧ ⟦<Layer<N, E, PendingLines> as span_registry_layers_layers::Layer>⟧ self.old
-            (OfTrace (SpanStep (record { lane = lane; moment = moment; callsite = callsite.0; parent = parent; values = lent_entries values.now }))) result self.new }
+            (OfTrace (SpanStep (record {
+              lane = lane;
+              moment = moment;
+              callsite = callsite.0;
+              parent = parent;
+              values = lent_entries values.now;
+            }))) result self.new }
     {
         steps_follow::<N, E, F, D>();
         if self.parts.is_busy() {
@@ -329,7 +311,8 @@ impl<N: FormatFields + Drop, E: FormatEvent, F: Filter, D: Folder> Trace<
     ) -> Reply
         ensures { IsStep D.contents D.failed ⟦<TraceStack<N, E, F, RoutedSinks<AnySink<D>>> as Subscriber>⟧ ⟦<N as FormatFields>⟧ E.line_of
             ⟦<F as Filter>⟧ ⟦<Layer<N, E, PendingLines> as span_registry_layers_layers::Layer>⟧ self.old
-            (OfTrace (RecordStep (record { lane = lane; moment = moment; span = span; values = lent_entries values.now }))) result self.new }
+            (OfTrace (RecordStep (record { lane = lane; moment = moment; span = span; values = lent_entries values.now })))
+            result self.new }
     {
         steps_follow::<N, E, F, D>();
         if self.parts.is_busy() {
@@ -355,16 +338,12 @@ impl<N: FormatFields + Drop, E: FormatEvent, F: Filter, D: Folder> Trace<
             ⟦<F as Filter>⟧ ⟦<Layer<N, E, PendingLines> as span_registry_layers_layers::Layer>⟧ self.old
             (OfTrace (FollowsFromStep (record { lane = lane; moment = moment; span = span; follows = follows }))) result self.new }
     {
-        steps_follow::<N, E, F, D>();
-        if self.parts.is_busy() {
-            return Reply::Refused(Refusal::Busy);
-        }
-        self.parts.record_follows_from(&FollowsCall {
+        self.step(&Step::RecordFollowsFrom(FollowsCall {
             lane,
             moment,
             span,
             follows,
-        })
+        }))
     }
 
     /// Enters a span on a lane.
@@ -400,15 +379,11 @@ impl<N: FormatFields + Drop, E: FormatEvent, F: Filter, D: Folder> Trace<
             ⟦<F as Filter>⟧ ⟦<Layer<N, E, PendingLines> as span_registry_layers_layers::Layer>⟧ self.old
             (OfTrace (CloneStep (record { lane = lane; moment = moment; span = span }))) result self.new }
     {
-        steps_follow::<N, E, F, D>();
-        if self.parts.is_busy() {
-            return Reply::Refused(Refusal::Busy);
-        }
-        self.parts.clone_span(&SpanCall { lane, moment, span })
+        self.step(&Step::CloneSpan(SpanCall { lane, moment, span }))
     }
 
-    /// Gives up one handle of a span; answers whether the span closed. Refused (`UnknownSpan`) for a span that isn't open, and for one that an
-    /// entry or a child keeps open while it has no handle left.
+    /// Gives up one handle of a span; answers whether the span closed. Refused (`UnknownSpan`) for a span that isn't open, and for one that
+    /// an entry or a child keeps open while it has no handle left.
     pub fn try_close(&mut self, lane: usize, moment: Moment, span: Option<SpanName>) -> Reply
         ensures { IsStep D.contents D.failed ⟦<TraceStack<N, E, F, RoutedSinks<AnySink<D>>> as Subscriber>⟧ ⟦<N as FormatFields>⟧ E.line_of
             ⟦<F as Filter>⟧ ⟦<Layer<N, E, PendingLines> as span_registry_layers_layers::Layer>⟧ self.old
@@ -434,8 +409,8 @@ impl<N: FormatFields + Drop, E: FormatEvent, F: Filter, D: Folder> Trace<
     /// Steps in order, with a reply to each. A step that is refused for lack of memory does nothing, and the others run.
     ///
     /// Where the trace is ready, each sink of an output of a stack takes exactly those lines that the output's machine offers and the route
-    /// sends to it. Where the sink dropped none, its folder's contents are known, and its appender agreed with a sink before (`AgreesSink`), these lines
-    /// stand in its files behind what was found and handed over before, as far as retention left the files.
+    /// sends to it. Where the sink dropped none, its folder's contents are known, and its appender agreed with a sink before
+    /// (`AgreesSink`), these lines stand in its files behind what was found and handed over before, as far as retention left the files.
     ///
     /// # Errors
     ///

@@ -1,5 +1,5 @@
-//! The tests of the crates below; one output, several stacks, folders that refuse, queues, and random runs over stacks of four outputs beside slow
-//! models of them.
+//! The tests of the crates below; one output, several stacks, folders that refuse, queues, and random runs over stacks of four outputs
+//! beside slow models of them.
 
 mod common;
 mod copies;

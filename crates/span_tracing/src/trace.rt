@@ -145,7 +145,8 @@ impl<T: Subscriber> Trace<T> {
 
 impl<T: Subscriber + HasRegistry + HasOutputs + HasSinks> Trace<T> {
     /// Takes a stack under the next number, and answers the number of its handle. The stack is told of its handle, and asked of each
-    /// callsite and for its hint. Its outputs get the next numbers, in order, and so do their sinks. A ready trace stays ready where the stack is.
+    /// callsite and for its hint. Its outputs get the next numbers, in order, and so do their sinks. A ready trace stays ready where the
+    /// stack is.
     ///
     /// # Errors
     ///
@@ -173,10 +174,10 @@ impl<N: FormatFields + Drop, E: FormatEvent, F: Filter, D: Folder> Trace<
     TraceStack<N, E, F, RoutedSinks<AnySink<D>>>,
 > {
     /// Lets the filter of an output and this one change places. From the next step on the new filter decides which events and new spans the
-    /// output is told of. A span that is open stays passed or refused as the filter had it that stood when it was made. Outputs are numbered
-    /// from 0 through all stacks, in the order in which they were added. Refused while a line is held (`Busy`), and as
-    /// [`output_refusal`](Trace::output_refusal) says. It needs no memory; where there is none, answers that are kept of callsites are left out.
-    /// `tracing-subscriber` has its `reload` for this.
+    /// output is told of. A span that is open stays passed or refused as the filter had it that stood when it was made. Outputs are
+    /// numbered from 0 through all stacks, in the order in which they were added. Refused while a line is held (`Busy`), and as
+    /// [`output_refusal`](Trace::output_refusal) says. It needs no memory; where there is none, answers that are kept of callsites are left
+    /// out. `tracing-subscriber` has its `reload` for this.
     pub fn swap_filter(&mut self, output: usize, filter: &mut F) -> Reply
         // While a line is held, it is refused and changes nothing.
         ensures busy { holds_in (holds outputs_hold) self.old ≡ true →
@@ -188,9 +189,11 @@ impl<N: FormatFields + Drop, E: FormatEvent, F: Filter, D: Folder> Trace<
             (λ x place f y b. StackSwap ⟦<F as Filter>⟧ x place f y b) self.old output filter.old result self.new filter.new }
         // A ready trace stays ready then where the filter is honest. Its skeleton is the same, its stacks are but for that filter and what
         // filters and outputs were last told, and outputs agree with the machines that they agreed with.
-        ensures follows { holds_in (holds outputs_hold) self.old ≡ false → TraceIsReady ⟦<F as Filter>⟧ ⟦<Layer<N, E, PendingLines> as span_registry_layers_layers::Layer>⟧ self.old →
+        ensures follows { holds_in (holds outputs_hold) self.old ≡ false →
+            TraceIsReady ⟦<F as Filter>⟧ ⟦<Layer<N, E, PendingLines> as span_registry_layers_layers::Layer>⟧ self.old →
             F.honest filter.old → SwapFollows ⟦<N as FormatFields>⟧ E.line_of ⟦<F as Filter>⟧ (TakesRouted (TakesAny D.contents D.failed))
-            ⟦<Layer<N, E, PendingLines> as span_registry_layers_layers::Layer>⟧ ⟦<TraceStack<N, E, F, RoutedSinks<AnySink<D>>> as Subscriber>⟧
+            ⟦<Layer<N, E, PendingLines> as span_registry_layers_layers::Layer>⟧
+            ⟦<TraceStack<N, E, F, RoutedSinks<AnySink<D>>> as Subscriber>⟧
             self.old output filter.old self.new }
     {
         setup_follows::<N, E, F, RoutedSinks<AnySink<D>>>();

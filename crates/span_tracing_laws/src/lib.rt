@@ -3,12 +3,14 @@
 
 mod json;
 mod json_runs;
+mod queue_steps;
 mod runs;
 
 pub use json::{
     files_hold_objects, json_format_writes_objects, json_outputs_offer_objects, lines_give_objects,
 };
 pub use json_runs::{json_files_hold_objects, json_format_files_hold_objects, json_outputs_run};
+pub use queue_steps::{calls_may_change_places, queues_count_exactly, work_may_be_cut};
 pub use runs::{
     files_follow, plain_steps_follow, runs_follow, setup_follows, skipping_misses_nothing,
     steps_follow, traces_stay_counted,

@@ -29,8 +29,8 @@ pub fn setup_follows<N: FormatFields + Drop, E: FormatEvent, F: Filter, S: LineS
     trace_follows::<N, E, F, S>();
 }
 
-/// A step of a trace over stacks of outputs with sinks that finds no line held goes as the skeleton and the output machines of each stack do,
-/// also of one that was released and isn't taken yet.
+/// A step of a trace over stacks of outputs with sinks that finds no line held goes as the skeleton and the output machines of each stack
+/// do, also of one that was released and isn't taken yet.
 pub fn plain_steps_follow<N: FormatFields + Drop, E: FormatEvent, F: Filter, S: LineSink>()
     ensures { StepsFollow ⟦<N as FormatFields>⟧ E.line_of ⟦<F as Filter>⟧ S.takes
         ⟦<Layer<N, E, PendingLines> as span_registry_layers_layers::Layer>⟧
@@ -39,9 +39,9 @@ pub fn plain_steps_follow<N: FormatFields + Drop, E: FormatEvent, F: Filter, S: 
     trace_follows::<N, E, F, S>();
 }
 
-/// While a line is held beside the queue of a sink, each step but the calls on queues is refused and changes nothing. Else a step goes as the
-/// skeleton and the output machines of each stack do, also of one that was released and isn't taken yet. A call on a sink's queue leaves
-/// the skeleton and the outputs as they were. Each step leaves the trace ready for the next one.
+/// While a line is held beside the queue of a sink, each step but the calls on queues is refused and changes nothing. Else a step goes as
+/// the skeleton and the output machines of each stack do, also of one that was released and isn't taken yet. A call on a sink's queue
+/// leaves the skeleton and the outputs as they were. Each step leaves the trace ready for the next one.
 pub fn steps_follow<N: FormatFields + Drop, E: FormatEvent, F: Filter, D: Folder>()
     ensures { AnyStepsFollow ⟦<N as FormatFields>⟧ E.line_of ⟦<F as Filter>⟧ (TakesRouted (TakesAny D.contents D.failed))
         (CallsIn D.contents D.failed) outputs_hold ⟦<Layer<N, E, PendingLines> as span_registry_layers_layers::Layer>⟧
@@ -50,8 +50,8 @@ pub fn steps_follow<N: FormatFields + Drop, E: FormatEvent, F: Filter, D: Folder
     plain_steps_follow::<N, E, F, RoutedSinks<AnySink<D>>>();
 }
 
-/// Each stack of a trace is held by as many as it counts: in a new trace, and in a ready one after each setup call, step and run. So a stack
-/// is released just when nobody holds it any more, and what a lane, a handle or a guard leads to is never released (`stays_counted`).
+/// Each stack of a trace is held by as many as it counts: in a new trace, and in a ready one after each setup call, step and run. So a
+/// stack is released just when nobody holds it any more, and what a lane, a handle or a guard leads to is never released (`stays_counted`).
 pub fn traces_stay_counted<N: FormatFields + Drop, E: FormatEvent, F: Filter, D: Folder>()
     ensures { TraceStaysCounted ⟦<N as FormatFields>⟧ E.line_of ⟦<F as Filter>⟧ (TakesRouted (TakesAny D.contents D.failed))
         ⟦<Layer<N, E, PendingLines> as span_registry_layers_layers::Layer>⟧

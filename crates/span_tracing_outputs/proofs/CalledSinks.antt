@@ -29,7 +29,8 @@ module _ {A : Type 0} (becomes : A → Reply → A → Type 0) where
   count_by place (Some x) xs reply after goes = ap length goes.2 ∙ length-set xs place goes.0
 
 module _ {D : Type 0} (contents : D → Option Contents) (failed : D → ℕ) where
-  count_at : (o : Option SinkPlace) (call : QueueCall) (olds : List (Routed (AnySink D))) (reply : Reply) (news : List (Routed (AnySink D))) →
+  count_at : (o : Option SinkPlace) (call : QueueCall) (olds : List (Routed (AnySink D))) (reply : Reply)
+      (news : List (Routed (AnySink D))) →
       CallsAt contents failed o call olds reply news → length news ≡ length olds
   count_at None call olds reply news goes = ap length goes.1
   count_at (Some at) call olds reply news goes =

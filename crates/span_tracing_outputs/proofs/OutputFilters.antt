@@ -69,7 +69,8 @@ module _ {N E F : Type 0} (g : FilterGhosts F) (place : ℕ) (filter back : F) w
       Every (λ f. g.honest f) (filters_of t.rows) → CacheIsValid g t
   valid_by s t r None a valid before honest = subst (λ (u : LinedStack N E F). CacheIsValid g u) (sym a.2) before
   valid_by s t r (Some row) a valid before honest =
-      subst (λ (q : Result (Unit {0}) UnknownOutput). OnOk q (Every (λ f. g.honest f) (filters_of t.rows) → CacheIsValid g t)) a.0 valid honest
+      subst (λ (q : Result (Unit {0}) UnknownOutput). OnOk q (Every (λ f. g.honest f) (filters_of t.rows) → CacheIsValid g t)) a.0 valid
+      honest
 
   -- the filter stands at the place, where there is an output, and the spans stay
   pub swapped_rows : (s t : LinedStack N E F) → LinedSwap g s place filter t back → t.rows ≡ with_filter_at filter place s.rows

@@ -47,7 +47,8 @@ lined_none s place setting None there none = sym (ap (λ (rows : List _). record
 lined_none s place setting (Some row) there none = absurd (cc)
 
 pub lined_some : {N E F : Type 0} (s : LinedStack N E F) (place : ℕ) (setting : Setting) (layer : Lines N E) (o : Option (Lined N E F)) →
-    slice_get s.rows place ≡ o → Some layer ≡ option_map layer_of o → put_layer place (layer_set setting layer) s ≡ lined_set s place setting
+    slice_get s.rows place ≡ o → Some layer ≡ option_map layer_of o →
+    put_layer place (layer_set setting layer) s ≡ lined_set s place setting
 lined_some s place setting layer None there some = absurd (cc)
 lined_some s place setting layer (Some row) there some =
     let own : layer ≡ row.output.layer = cc in

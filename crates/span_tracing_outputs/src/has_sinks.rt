@@ -22,13 +22,13 @@ fn count_in<S: Drop>(outputs: &[RoutedSinks<S>]) -> usize
     }
 }
 
-/// Where a sink stands.
+/// Where a sink of a stack stands. Contracts of calls on queues speak of it.
 #[derive(Clone, Copy, Debug, PartialEq, Eq)]
-pub(crate) struct SinkPlace {
+pub struct SinkPlace {
     /// The place of its output.
-    output: usize,
+    pub output: usize,
     /// Its number among the output's sinks.
-    sink: usize,
+    pub sink: usize,
 }
 
 // Where the sink with a number stands.

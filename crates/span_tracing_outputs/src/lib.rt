@@ -18,6 +18,7 @@ pub use files::{
     SpecRefusal, open_stack, open_stack_with_threads,
 };
 pub use hand::hand_over;
+pub use has_sinks::SinkPlace;
 pub use laws::{layer_follows, outputs_fold, stack_follows, trace_follows, trace_starts};
 pub use pending::{PendingLine, PendingLines};
 pub use sink::LineSink;

@@ -9,7 +9,8 @@ use Rattle.tracing_core_fields.specs.declared.requests.subscriber.Subscriber.{Gh
 use Rattle.tracing_core_fields.specs.requests.Lists.{Every}
 use Rattle.tracing_core_fields.specs.requests.Refusals.{or_refused, or_same}
 use Rattle.tracing_core.specs.Defaults as hub
-use Rattle.tracing_core.specs.Defaults.{default_refusal, given_up, global_refusal, globally, guard_of, holding, locally, reset_gives, reset_gives_at}
+use Rattle.tracing_core.specs.Defaults.{default_refusal, given_up, global_refusal, globally, guard_of, holding, locally, reset_gives}
+use Rattle.tracing_core.specs.Defaults.{reset_gives_at}
 use Rattle.tracing_core.specs.Defaults.{running}
 use Rattle.tracing_core.specs.Handles.{hold_refusal, most, refusal_at, subscriber_with}
 use Rattle.tracing_core.specs.Table.{Table}
@@ -27,7 +28,8 @@ use Rattle.span_registry_layers_store.specs.Registries.{RegistryValue}
 use Rattle.span_tracing_skeleton.specs.Looking.{inner, is_held, stack_behind, was_set}
 use Rattle.span_tracing_skeleton.specs.Order.{further_refusal, refusal_of}
 use Rattle.span_tracing_skeleton.specs.PlainData.{GlobalStep}
-use Rattle.span_tracing_skeleton.specs.Refusing.{first, full_refusal, guard_refusal_by, handle_refusal, handle_refusal_by, lane_refusal, when}
+use Rattle.span_tracing_skeleton.specs.Refusing.{first, full_refusal, guard_refusal_by, handle_refusal, handle_refusal_by, lane_refusal}
+use Rattle.span_tracing_skeleton.specs.Refusing.{when}
 use Rattle.span_tracing_skeleton.specs.Refusing as refusing
 use Rattle.span_tracing_skeleton.specs.declared.call.Reply.TheVariants as replies
 use Rattle.span_tracing_skeleton.specs.declared.setting.Setting.{Setting}
@@ -91,7 +93,8 @@ module _ {T : Type 0} (registry_of : T → RegistryValue) (v : StateValue T) whe
       (ap (handle_refusal_by (skeleton_of registry_of v)) (sym (get_map inner v.handles handle)) ∙ none)
 
   -- what a handle leads to, in the skeleton
-  pub behind_is : (handle : ℕ) (d : Option ℕ) → Some d ≡ inner (slice_get v.handles handle) → stack_behind (skeleton_of registry_of v) handle ≡ d
+  pub behind_is : (handle : ℕ) (d : Option ℕ) → Some d ≡ inner (slice_get v.handles handle) →
+      stack_behind (skeleton_of registry_of v) handle ≡ d
   behind_is handle d is = ap inner (get_map inner v.handles handle ∙ ap (option_map inner) (both (slice_get v.handles handle) d is))
 
   free_of : (n : ℕ) (o : Option (KeptSubscriber T)) → o ≡ subscriber_with n v.hub.subscribers → is_some o ≡ true →
@@ -110,7 +113,8 @@ module _ {T : Type 0} (registry_of : T → RegistryValue) (v : StateValue T) whe
   led_free None known free = refl
   led_free (Some n) known free =
       free_of n (subscriber_with n v.hub.subscribers) refl
-      (sym (some_map (held_stack registry_of) (subscriber_with n v.hub.subscribers)) ∙ ap is_some (sym (held_with registry_of n v.hub.subscribers)) ∙
+      (sym (some_map (held_stack registry_of) (subscriber_with n v.hub.subscribers)) ∙
+      ap is_some (sym (held_with registry_of n v.hub.subscribers)) ∙
       not-false (is_held (skeleton_of registry_of v) n) (when_none (not (is_held (skeleton_of registry_of v) n)) ReleasedStack known))
       (ap full_refusal (sym (held_with registry_of n v.hub.subscribers)) ∙ free)
 
@@ -159,7 +163,8 @@ module _ {T : Type 0} (g : Ghosts T) (registry_of : T → RegistryValue) (set : 
       StepGives g registry_of set v (GlobalStep handle) replies.Done (record v { hub = u })
   global_given handle d u is none state =
       let s = skeleton_of registry_of v in
-      let later = second_none (handle_refusal s handle) (first (when (was_set s.default) GlobalSet) (refusing.hold_refusal s handle)) none in
+      let later = second_none (handle_refusal s handle) (first (when (was_set s.default) GlobalSet) (refusing.hold_refusal s handle))
+      none in
       let unset : hub.was_set v.hub.global ≡ false = sym (set_is v.hub.global) ∙
       when_none (was_set s.default) GlobalSet (first_none (when (was_set s.default) GlobalSet) (refusing.hold_refusal s handle) later) in
       let known = first_none (handle_refusal s handle) (first (when (was_set s.default) GlobalSet) (refusing.hold_refusal s handle)) none in
@@ -167,7 +172,8 @@ module _ {T : Type 0} (g : Ghosts T) (registry_of : T → RegistryValue) (set : 
       (ap (λ (o : Option Refusal). first o (refusing.hold_refusal s handle)) known ∙
       second_none (when (was_set s.default) GlobalSet) (refusing.hold_refusal s handle) later) in
       let made : u ≡ globally v.hub (behind v handle) = state ∙
-      ap (λ (b : Bool). or_same (if b then Some AlreadySet else option_map Handle (hold_refusal d v.hub.subscribers)) v.hub (globally v.hub d))
+      ap (λ (b : Bool). or_same (if b then Some AlreadySet else option_map Handle (hold_refusal d v.hub.subscribers)) v.hub
+      (globally v.hub d))
       unset ∙ ap (λ (o : Option HandleError). or_same (option_map Handle o) v.hub (globally v.hub d)) free ∙
       ap (globally v.hub) (sym (leads registry_of v handle d is)) in
       given g registry_of set v (GlobalStep handle) replies.Done (record v { hub = u }) none

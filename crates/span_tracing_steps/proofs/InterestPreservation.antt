@@ -24,7 +24,8 @@ use Rattle.tracing_core.proofs.SubscriberNumbers.{by_bool}
 use Rattle.span_registry_layers_store.specs.Registries.{RegistryValue}
 use Rattle.span_tracing_skeleton.specs.Looking.{callsite_of, inner, known, named, output_in, reach}
 use Rattle.span_tracing_skeleton.specs.Order.{refusal_of}
-use Rattle.span_tracing_skeleton.specs.PlainData.{AnyStep, OfQueue, OfTrace, PlainStep, GlobalStep, EventStep, EnabledStep, SpanStep, RecordStep, FollowsFromStep}
+use Rattle.span_tracing_skeleton.specs.PlainData.{AnyStep, OfQueue, OfTrace, PlainStep, GlobalStep, EventStep, EnabledStep, SpanStep}
+use Rattle.span_tracing_skeleton.specs.PlainData.{RecordStep, FollowsFromStep}
 use Rattle.span_tracing_skeleton.specs.PlainData.{EnterStep, ExitStep, CloneStep, CloseStep, DefaultStep, ResetStep, CloneHandleStep}
 use Rattle.span_tracing_skeleton.specs.PlainData.{ReleaseStep, SetStep, Request, RecordRequest}
 use Rattle.span_tracing_skeleton.specs.declared.call.EnabledCall.{EnabledCall}
@@ -44,8 +45,10 @@ use Rattle.span_tracing_steps.specs.Setup.{AddGives, RegisterGives, RegistersAs}
 use Rattle.span_tracing_steps.specs.SinkCalls.{DriveGives, PlaceCalled, StackCalled}
 use Rattle.span_tracing_steps.specs.StackRequests.{own_values, place_at, request_of}
 use Rattle.span_tracing_steps.specs.States.{StateValue, behind, skeleton_of}
-use Rattle.span_tracing_steps.specs.Steps.{CallGoes, CloneGoes, CloseGoes, EnterGoes, EventGoes, ExitGoes, FollowsGoes, QuestionGoes, RecordGoes}
-use Rattle.span_tracing_steps.specs.Steps.{SpanGoes, StepGives, StepGoes, StepUnless, ValuesGo, asked_for, restored, with_default, with_handle}
+use Rattle.span_tracing_steps.specs.Steps.{CallGoes, CloneGoes, CloseGoes, EnterGoes, EventGoes, ExitGoes, FollowsGoes, QuestionGoes}
+use Rattle.span_tracing_steps.specs.Steps.{RecordGoes}
+use Rattle.span_tracing_steps.specs.Steps.{SpanGoes, StepGives, StepGoes, StepUnless, ValuesGo, asked_for, restored, with_default}
+use Rattle.span_tracing_steps.specs.Steps.{with_handle}
 use Rattle.span_tracing_steps.specs.Steps.{becoming, set_in, with_setting, without_handle}
 use Rattle.span_tracing_steps.specs.contracts.callsite.TraceCallsiteCallsite.TheImpl.{ghosts}
 use Rattle.span_tracing_steps.specs.declared.callsite.TraceCallsite.{TraceCallsite}
@@ -70,7 +73,8 @@ module _ {T : Type 0} (g : Ghosts T) where
       (λ away. serial_is n xs e (ap (λ (b : Bool). if b then Some x else subscriber_with n xs) (sym away) ∙ there))
 
   -- of who is held afterwards what is kept was right before, and is
-  right_by : (t u : Hub) (n : ℕ) (f : KeptSubscriber T) (o : Option (KeptSubscriber T)) → IsSoundHub ghosts t → PreservesLivingCaches g ghosts t u →
+  right_by : (t u : Hub) (n : ℕ) (f : KeptSubscriber T) (o : Option (KeptSubscriber T)) → IsSoundHub ghosts t →
+      PreservesLivingCaches g ghosts t u →
       n < t.next → subscriber_with n u.subscribers ≡ Some f → subscriber_with n t.subscribers ≡ o →
       ((e : KeptSubscriber T) → subscriber_with n t.subscribers ≡ Some e → HasValidCache g ghosts t e) → HasValidCache g ghosts u f
   right_by t u n f None sound keeps below there was valid =
@@ -93,7 +97,8 @@ module _ {T : Type 0} (g : Ghosts T) where
     sound = keeps.caches.sound word.sound;
     valid = λ n f there.
         let sound = keeps.caches.sound word.sound in
-        let below : n < v.hub.next = subst (λ (k : ℕ). n < k) keeps.next (below_next n 0 w.hub.next w.hub.subscribers f sound.numbers there) in
+        let below : n < v.hub.next = subst (λ (k : ℕ). n < k) keeps.next
+        (below_next n 0 w.hub.next w.hub.subscribers f sound.numbers there) in
         right_by v.hub w.hub n f (subscriber_with n v.hub.subscribers) word.sound keeps.caches below there refl (word.valid n);
   }
 
@@ -122,7 +127,8 @@ module _ {T : Type 0} (g : Ghosts T) where
       Keeps v.hub w.hub
   event_keeps None m v e w same = same_state v w same
   event_keeps (Some stack) None v e w goes = absurd goes
-  event_keeps (Some stack) (Some m) v e w goes = called stack v (EventDispatched (request_of m e) (place_at e.lane e.moment)) goes.0 w goes.1
+  event_keeps (Some stack) (Some m) v e w goes = called stack v (EventDispatched (request_of m e) (place_at e.lane e.moment)) goes.0 w
+      goes.1
 
   question_keeps : (o : Option ℕ) (m : Option PlainMetadata) (v : StateValue T) (call : EnabledCall) (reply : Reply) (w : StateValue T) →
       QuestionGoes g o m v call reply w → Keeps v.hub w.hub
@@ -139,7 +145,8 @@ module _ {T : Type 0} (g : Ghosts T) where
   values_keep : (name : SpanName) (m : Option PlainMetadata) (v : StateValue T) (r : RecordRequest) (w : StateValue T) →
       ValuesGo g name m v r w → Keeps v.hub w.hub
   values_keep name None v r w same = same_state v w same
-  values_keep name (Some m) v r w goes = called name.stack v (Recorded name.id.value (own_values m r.values) (place_at r.lane r.moment)) goes.0 w goes.1
+  values_keep name (Some m) v r w goes = called name.stack v (Recorded name.id.value (own_values m r.values) (place_at r.lane r.moment))
+      goes.0 w goes.1
 
   record_keeps : (registry_of : T → RegistryValue) (span : Option SpanName) (v : StateValue T) (r : RecordRequest) (w : StateValue T) →
       RecordGoes g registry_of span v r w → Keeps v.hub w.hub
@@ -150,14 +157,16 @@ module _ {T : Type 0} (g : Ghosts T) where
       FollowsGoes g span follows v call w → Keeps v.hub w.hub
   follows_keep None follows v call w same = same_state v w same
   follows_keep (Some name) None v call w same = same_state v w same
-  follows_keep (Some name) (Some followed) v call w goes = called name.stack v (FollowsRecorded name.id.value followed.id.value (place_at call.lane call.moment)) goes.0 w goes.1
+  follows_keep (Some name) (Some followed) v call w goes = called name.stack v
+      (FollowsRecorded name.id.value followed.id.value (place_at call.lane call.moment)) goes.0 w goes.1
 
   enter_keeps : (span : Option SpanName) (v : StateValue T) (call : SpanCall) (reply : Reply) (w : StateValue T) →
       EnterGoes g span v call reply w → Keeps v.hub w.hub
   enter_keeps None v call reply w goes = same_state v w goes.1
   enter_keeps (Some name) v call reply w goes = called name.stack v (Entered name.id.value (place_at call.lane call.moment)) goes.0 w goes.1
 
-  exit_keeps : (span : Option SpanName) (v : StateValue T) (call : SpanCall) (w : StateValue T) → ExitGoes g span v call w → Keeps v.hub w.hub
+  exit_keeps : (span : Option SpanName) (v : StateValue T) (call : SpanCall) (w : StateValue T) → ExitGoes g span v call w →
+      Keeps v.hub w.hub
   exit_keeps None v call w same = same_state v w same
   exit_keeps (Some name) v call w goes = called name.stack v (Exited name.id.value (place_at call.lane call.moment)) tt w goes
 
@@ -169,7 +178,8 @@ module _ {T : Type 0} (g : Ghosts T) where
   close_keeps : (span : Option SpanName) (v : StateValue T) (call : SpanCall) (reply : Reply) (w : StateValue T) →
       CloseGoes g span v call reply w → Keeps v.hub w.hub
   close_keeps None v call reply w goes = same_state v w goes.1
-  close_keeps (Some name) v call reply w goes = called name.stack v (CloseTried name.id.value (place_at call.lane call.moment)) goes.0 w goes.1
+  close_keeps (Some name) v call reply w goes = called name.stack v (CloseTried name.id.value (place_at call.lane call.moment)) goes.0 w
+      goes.1
 
   restored_keeps : (v : StateValue T) (lane number : ℕ) (o : Option DefaultGuard) → Keeps v.hub (restored v lane number o).hub
   restored_keeps v lane number None = same_hub v.hub
@@ -274,7 +284,8 @@ module _ {T : Type 0} (g : Ghosts T) where
         let made = added_kept g ghosts v.hub w.hub x (Some v.hub.next) goes.1 word.sound steady in
         let same : n ≡ v.hub.next = grind (arith, nat_tests) in
         let number : made.0.serial ≡ v.hub.next = (let both : Some v.hub.next ≡ Some made.0.serial = made.1 in cc) in
-        let is : Some made.0 ≡ Some f = sym made.2.stands ∙ ap (λ (k : ℕ). subscriber_with k w.hub.subscribers) (number ∙ sym same) ∙ there in
+        let is : Some made.0 ≡ Some f = sym made.2.stands ∙ ap (λ (k : ℕ). subscriber_with k w.hub.subscribers) (number ∙ sym same) ∙
+        there in
         let one : made.0 ≡ f = cc in subst (HasValidCache g ghosts w.hub) one made.2
     added_by v x handle w goes word steady n f there false other =
         let keeps = living_from g ghosts v.hub w.hub (add_keeps g ghosts v.hub w.hub x (Ok (Some v.hub.next)) goes.1) in
@@ -302,8 +313,8 @@ module _ {T : Type 0} (g : Ghosts T) where
           next = refl;
         }
 
-    called_keeps : (v : StateValue T) (at : OutputPlace) (call : QueueCall) (o : Option (KeptSubscriber T)) (waits : Option T) (reply : Reply)
-        (w : StateValue T) → subscriber_with at.stack v.hub.subscribers ≡ o →
+    called_keeps : (v : StateValue T) (at : OutputPlace) (call : QueueCall) (o : Option (KeptSubscriber T)) (waits : Option T)
+        (reply : Reply) (w : StateValue T) → subscriber_with at.stack v.hub.subscribers ≡ o →
         StackCalled drives v at call (option_map (λ (e : KeptSubscriber T). e.subscriber) o) waits reply w → Keeps v.hub w.hub
     called_keeps v at call None None reply w there goes = same_state v w goes.1
     called_keeps v at call None (Some x) reply w there goes =

@@ -9,5 +9,4 @@ pub mod HoldChanges
 pub mod Registration
 pub mod InterestPreservation
 pub mod SinkCalls
-pub mod HeldLines
 pub mod AnySteps

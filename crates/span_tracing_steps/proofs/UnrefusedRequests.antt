@@ -60,7 +60,8 @@ changed_same number x (e ∷ es) is = same_if (e.serial == number) x e es (chang
 
 module _ {T : Type 0} (g : Ghosts T) (registry_of : T → RegistryValue) (set : T → ℕ → Setting → T) (v : StateValue T) where
   -- an event that leaves its stack as it is
-  took : (number : ℕ) (x : T) (m : PlainMetadata) (r : Request) (o : Option (KeptSubscriber T)) → o ≡ subscriber_with number v.hub.subscribers →
+  took : (number : ℕ) (x : T) (m : PlainMetadata) (r : Request) (o : Option (KeptSubscriber T)) →
+      o ≡ subscriber_with number v.hub.subscribers →
       option_map (λ (k : KeptSubscriber T). k.subscriber) o ≡ Some x → StaysAt g r.parent (Some m) x →
       CallGivesAt g (EventDispatched (request_of m (plain_request r)) (place_at r.lane r.moment)) (Some number) v.hub.subscribers o (Ok tt)
       v.hub.subscribers
@@ -91,8 +92,11 @@ module _ {T : Type 0} (g : Ghosts T) (registry_of : T → RegistryValue) (set : 
       EventGoes g reached (known (skeleton_of registry_of v) r.callsite false) v (plain_request r) v →
       StepGives g registry_of set v (EventStep (plain_request r)) Done v
   untold r index reached is by goes =
-      given (EventStep (plain_request r)) Done v by.2
-      (refl, subst (λ (o : Option ℕ). EventGoes g o (known (skeleton_of registry_of v) r.callsite false) v (plain_request r) v) (sym is) goes)
+      given (EventStep (plain_request r)) Done v by.2 (
+        refl,
+        subst (λ (o : Option ℕ). EventGoes g o (known (skeleton_of registry_of v) r.callsite false) v (plain_request r) v) (sym is)
+            goes,
+      )
 
   pub event_ignored : (r : Request) (index : CallsiteIndex) (o : Option ℕ) → o ≡ None → FoundFor registry_of v r.lane r.moment r.callsite
       false r.parent (Ok index) → GoesTo g registry_of v r.lane index r.parent o →

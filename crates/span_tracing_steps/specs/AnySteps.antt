@@ -1,6 +1,7 @@
 -- Any step: one on the trace, which waits while a line is held, or a call on the queue of a sink.
-use Rattle.std.specs.Prelude.{◌≡◌, ◌⊎◌, ◌||◌, ℕ, zero, suc, Bool, true, false, Option, Some, None}
+use Rattle.std.specs.Prelude.{◌≡◌, ◌⊎◌, ◌||◌, ℕ, Bool, true, false, List, [], ◌∷◌, Option, Some, None}
 use Rattle.tracing_core_fields.specs.declared.requests.subscriber.Subscriber.{Ghosts}
+use Rattle.tracing_core.specs.TableRows.{KeptSubscriber}
 use Rattle.span_registry_layers_store.specs.Registries.{RegistryValue}
 use Rattle.span_tracing_skeleton.specs.PlainData.{AnyStep, OfQueue, OfTrace}
 use Rattle.span_tracing_skeleton.specs.declared.call.Reply.{Reply}
@@ -9,22 +10,24 @@ use Rattle.span_tracing_skeleton.specs.declared.queue_call.QueueCall.{QueueCall}
 use Rattle.span_tracing_skeleton.specs.declared.refusal.Refusal.TheVariants.{Busy}
 use Rattle.span_tracing_skeleton.specs.declared.setting.Setting.{Setting}
 use Rattle.span_tracing_steps.specs.SinkCalls.{DriveGives}
-use Rattle.span_tracing_steps.specs.States.{StateValue, stack_in}
+use Rattle.span_tracing_steps.specs.States.{StateValue}
 use Rattle.span_tracing_steps.specs.Steps.{StepGives}
 
 module _ {T : Type 0} (holds : T → Bool) where
-  abbrev pub holds_of : Option T → Bool
-  holds_of None = false
-  holds_of (Some x) = holds x
+  -- whether a line is held in one of the stacks that somebody holds
+  abbrev pub some_lives : List (KeptSubscriber T) → Bool
+  some_lives [] = false
+  some_lives (e ∷ es) = holds e.subscriber || some_lives es
 
-  -- whether one of the first so many stacks holds a line
-  abbrev pub holds_below : StateValue T → ℕ → Bool
-  holds_below v zero = false
-  holds_below v (suc number) = holds_of (stack_in v number) || holds_below v number
+  -- whether one is held in one of the stacks that wait to be taken
+  abbrev pub some_waits : List (Option T) → Bool
+  some_waits [] = false
+  some_waits (None ∷ stacks) = some_waits stacks
+  some_waits (Some x ∷ stacks) = holds x || some_waits stacks
 
   -- whether a line is held beside the queue of a sink, whose stack may have been released, but not taken
   abbrev pub holds_in : StateValue T → Bool
-  holds_in v = holds_below v v.hub.next
+  holds_in v = some_lives v.hub.subscribers || some_waits v.retired
 
 -- whether a step has to wait, where a line is held or not: calls on queues go on
 abbrev pub must_wait : Bool → AnyStep → Bool

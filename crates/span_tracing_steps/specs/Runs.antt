@@ -20,11 +20,13 @@ module _ {T : Type 0} (g : Ghosts T) (registry_of : T → RegistryValue) (set : 
   -- a step as it is given, on the road that asks once each stack was asked anew
   abbrev pub StepBy : Road → StateValue T → AnyStep → Reply → StateValue T → Type 0
   StepBy Caching v step reply w = AnyStepGives g registry_of set drives holds v step reply w
-  StepBy Asking v step reply w = (start : StateValue T) × AsksAnew g v start × AnyStepGives g registry_of set drives holds start step reply w
+  StepBy Asking v step reply w = (start : StateValue T) × AsksAnew g v start ×
+      AnyStepGives g registry_of set drives holds start step reply w
 
   -- steps in order
   abbrev pub RunGives : Road → StateValue T → List AnyStep → List Reply → StateValue T → Type 0
   RunGives road v [] [] w = w ≡ v
   RunGives road v [] (reply ∷ replies) w = ⊥
   RunGives road v (step ∷ steps) [] w = ⊥
-  RunGives road v (step ∷ steps) (reply ∷ replies) w = (mid : StateValue T) × StepBy road v step reply mid × RunGives road mid steps replies w
+  RunGives road v (step ∷ steps) (reply ∷ replies) w = (mid : StateValue T) × StepBy road v step reply mid ×
+      RunGives road mid steps replies w

@@ -26,7 +26,7 @@ module _ {T : Type 0} (drives : T → ℕ → QueueCall → Reply → T → Type
   PlaceCalled v (Some at) call reply w =
       StackCalled v at call (held_in v at.stack) (inner (slice_get v.retired at.stack)) reply w
 
-  -- The stack of the sink with a number does so to the sink's queue, and nothing else changes. Where no sink has the number, or its stack was
-  -- taken, that is told.
+  -- The stack of the sink with a number does so to the sink's queue, and nothing else changes. Where no sink has the number, or its stack
+  -- was taken, that is told.
   abbrev pub DriveGives : StateValue T → ℕ → QueueCall → Reply → StateValue T → Type 0
   DriveGives v sink call reply w = PlaceCalled v (output_in v.sinks 0 sink) call reply w

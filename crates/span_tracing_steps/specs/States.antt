@@ -28,8 +28,8 @@ abbrev pub plain_thread : Thread → PlainThread
 plain_thread thread = record { name = option_map string_bytes thread.name; number = thread.thread_id }
 
 -- what the hub keeps: stacks by their numbers with who holds them, callsites with the interest in them, lanes with their own defaults, and
--- the global default; the lanes' threads; by number how many outputs and how many sinks each stack has; by number what each handle leads to,
--- and each guard, where it isn't spent; and by number each stack that was released and waits to be taken
+-- the global default; the lanes' threads; by number how many outputs and how many sinks each stack has; by number what each handle leads
+-- to, and each guard, where it isn't spent; and by number each stack that was released and waits to be taken
 pub record StateValue (T : Type 0) : Type 0 where
   pub hub : Table T TraceCallsite
   pub threads : List PlainThread

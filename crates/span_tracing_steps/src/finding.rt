@@ -17,7 +17,8 @@ impl<T: Subscriber + HasRegistry> TraceParts<T> {
     #[tactic(auto, using(crate::proofs::Callsites::index_names, crate::proofs::Callsites::index_there))]
     pub(crate) fn find(&self, number: u64) -> Option<CallsiteIndex>
         requires { IsSound self.now }
-        ensures names { at_index (skeleton_of T.registry_of (value_in self.now)).callsites result ≡ named (skeleton_of T.registry_of (value_in self.now)).callsites number }
+        ensures names { at_index (skeleton_of T.registry_of (value_in self.now)).callsites result
+            ≡ named (skeleton_of T.registry_of (value_in self.now)).callsites number }
         ensures there { is_some result ≡ is_some (named (skeleton_of T.registry_of (value_in self.now)).callsites number) }
     {
         self.hub.index_of(Identifier(number))
@@ -83,8 +84,9 @@ impl<T: Subscriber + HasRegistry> TraceParts<T> {
     #[inline(always)]
     fn counted_event(&self, number: u64) -> Option<CallsiteIndex>
         requires { IsSound self.now }
-        ensures { IfSome result (λ index. (at_index (skeleton_of T.registry_of (value_in self.now)).callsites (Some index) ≡ known (skeleton_of T.registry_of
-            (value_in self.now)) number false) × (is_some (known (skeleton_of T.registry_of (value_in self.now)) number false) ≡ true)) }
+        ensures { IfSome result (λ index. (at_index (skeleton_of T.registry_of (value_in self.now)).callsites (Some index)
+            ≡ known (skeleton_of T.registry_of (value_in self.now)) number false)
+            × (is_some (known (skeleton_of T.registry_of (value_in self.now)) number false) ≡ true)) }
     {
         let Some(index) = self.hub.counted_index_of(Identifier(number)) else {
             return None;

@@ -234,8 +234,8 @@ impl<T: Subscriber + HasRegistry + HasOutputs> TraceParts<T> {
     pub fn set_default(&mut self, call: &DefaultCall) -> Reply
         requires { IsSound self.old }
         ensures sound { IsSound self.new }
-        // A refused call changes nothing; else the lane has this default, which holds its stack, and there is a guard more; or out of memory
-        // is answered, and nothing changes.
+        // A refused call changes nothing; else the lane has this default, which holds its stack, and there is a guard more; or out of
+        // memory is answered, and nothing changes.
         ensures gives { StepGives ⟦<T as Subscriber>⟧ T.registry_of T.set (value_in self.old) (DefaultStep call.now) result
             (value_in self.new) }
     {

@@ -16,7 +16,8 @@ impl<T: Subscriber + HasRegistry> TraceParts<T> {
     /// Where the callsite with the identifier stands, where it is registered.
     pub fn callsite(&self, identifier: Identifier) -> Option<CallsiteIndex>
         requires { IsSound self.now }
-        ensures names { at_index (skeleton_of T.registry_of (value_in self.now)).callsites result ≡ named (skeleton_of T.registry_of (value_in self.now)).callsites identifier.0 }
+        ensures names { at_index (skeleton_of T.registry_of (value_in self.now)).callsites result
+            ≡ named (skeleton_of T.registry_of (value_in self.now)).callsites identifier.0 }
         ensures there { is_some result ≡ is_some (named (skeleton_of T.registry_of (value_in self.now)).callsites identifier.0) }
     {
         self.find(identifier.0)

@@ -17,8 +17,8 @@ pub struct Thread {
     pub thread_id: u64,
 }
 
-/// The lanes' threads; by number how many outputs and how many sinks each stack has; the hub with callsites, stacks and defaults; handles and guards by number, where they aren't spent; and stacks that
-/// were released and wait to be taken, each in the place of its number.
+/// The lanes' threads; by number how many outputs and how many sinks each stack has; the hub with callsites, stacks and defaults; handles
+/// and guards by number, where they aren't spent; and stacks that were released and wait to be taken, each in the place of its number.
 pub struct TraceParts<T> {
     pub(crate) alloc: Global,
     pub(crate) threads: Vec<Thread>,

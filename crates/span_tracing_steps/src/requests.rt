@@ -149,8 +149,8 @@ impl<T: Subscriber + HasRegistry + HasOutputs> TraceParts<T> {
         );
     }
 
-    // Hands an event to the stack, which the lane reaches. It stands out of line, so that an event that the stack ignores saves no registers
-    // for it.
+    // Hands an event to the stack, which the lane reaches. It stands out of line, so that an event that the stack ignores saves no
+    // registers for it.
     #[inline(never)]
     fn hand(
         &mut self,

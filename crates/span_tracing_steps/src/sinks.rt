@@ -1,14 +1,36 @@
 //! Queues of sinks.
 ghost use Rattle.std.specs.Prelude.{◌≡◌, slice_get};
 ghost use Rattle.span_tracing_skeleton.specs.Looking.{inner, output_in};
-ghost use Rattle.span_tracing_steps.specs.AnySteps.{holds_in, holds_of};
+ghost use Rattle.span_tracing_steps.specs.AnySteps.{holds_in, some_lives, some_waits};
 ghost use Rattle.span_tracing_steps.specs.SinkCalls.{DriveGives, StackCalled, WaitingCalled};
-ghost use Rattle.span_tracing_steps.specs.States.{held_in, stack_in, value_in};
+ghost use Rattle.span_tracing_steps.specs.States.{held_in, value_in};
 
 use crate::parts::TraceParts;
 use crate::settings::place_in;
 use span_tracing_skeleton::{HasRegistry, HasSinks, OutputPlace, QueueCall, Refusal, Reply};
+use tracing_core::RegisteredSubscriber;
 use tracing_core_fields::{Subscriber, weak_of};
+
+// Whether a line is held in one of the stacks that somebody holds.
+fn some_lives<T: HasSinks>(stacks: &[RegisteredSubscriber<T>]) -> bool
+    ensures { result ≡ some_lives T.holds stacks.now }
+{
+    match stacks {
+        [] => false,
+        [first, later @ ..] => first.subscriber().is_holding() || some_lives(later),
+    }
+}
+
+// Whether a line is held in one of the stacks that wait to be taken.
+fn some_waits<T: HasSinks>(stacks: &[Option<T>]) -> bool
+    ensures { result ≡ some_waits T.holds stacks.now }
+{
+    match stacks {
+        [] => false,
+        [Some(first), later @ ..] => first.is_holding() || some_waits(later),
+        [None, later @ ..] => some_waits(later),
+    }
+}
 
 impl<T: Subscriber> TraceParts<T> {
     /// Where the sink with a number stands, also where its stack was released or taken: its stack's number, and its number in that stack.
@@ -22,28 +44,12 @@ impl<T: Subscriber> TraceParts<T> {
 impl<T: Subscriber + HasRegistry + HasSinks> TraceParts<T> {
     ghost use Rattle.span_tracing_steps.specs.TraceInvariant.{IsSound};
 
-    // Whether the stack with a number holds a line, where it isn't taken.
-    fn holds_at(&self, number: usize) -> bool
-        ensures { result ≡ holds_of T.holds (stack_in (value_in self.now) number) }
-    {
-        match self.stack(number) {
-            None => false,
-            Some(stack) => stack.is_holding(),
-        }
-    }
-
     /// Whether a line is held beside the queue of a sink, whose stack may have been released, but not taken. Each step but the calls on
     /// queues is refused then.
     pub fn is_busy(&self) -> bool
-        requires { IsSound self.now }
         ensures { result ≡ holds_in T.holds (value_in self.now) }
     {
-        for number in 0..self.given() {
-            if self.holds_at(number) {
-                return true;
-            }
-        }
-        false
+        some_lives(self.hub.subscribers()) || some_waits(self.retired.as_slice())
     }
 
     // Does this to the queue of the sink at a place of a stack that was released and waits to be taken.

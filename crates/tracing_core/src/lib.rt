@@ -13,7 +13,8 @@ pub use callsite::DefaultCallsite;
 pub use dispatch::Dispatch;
 pub use guard::{DefaultGuard, WrongLane};
 pub use hub::{
-    CallsiteIndex, HandleCount, Hub, HubTable, KeptInterest, Lane, LaneDefault, RequestParent,
+    CallsiteIndex, HandleCount, Hub, HubTable, KeptInterest, Lane, LaneDefault,
+    RegisteredSubscriber, RequestParent,
 };
 pub use refusal::{
     AddError, HandleError, RegisterError, SetDefaultError, SetGlobalDefaultError, TooManyHandles,

@@ -113,8 +113,8 @@ fn a_failed_switch_is_tried_once_a_day(rt: HostRuntime) -> Result<(), Fail> {
         (1, 0, 0)
     );
     assert_eq!(rt; faults.last, Some(FolderFault::Refused));
-    assert_eq!(rt; trace.starved(0, 0), Some(0));
-    assert_eq!(rt; trace.starved(0, 1), None);
+    assert_eq!(rt; trace.starved(0), Some(0));
+    assert_eq!(rt; trace.starved(1), None);
     assert!(rt; trace.sink(1).is_none());
     Ok(())
 }

@@ -134,19 +134,21 @@ impl Table {
         Reply::Done
     }
 
-    /// The text of all files, in order of the days.
-    fn text(&self, alloc: Global) -> Result<String, Fail> {
+    /// The text of a day's file, or none where no line was handed over on the day. The opening made the first day's.
+    fn text(&self, alloc: Global, day: usize) -> Result<Option<String>, Fail> {
         let mut text = String::new(alloc);
-        for lines in &self.files {
-            for line in lines {
-                text.push_str(format!(in alloc; "app: {line}\n")?.as_str())?;
-            }
+        for line in &self.files[day] {
+            text.push_str(format!(in alloc; "app: {line}\n")?.as_str())?;
         }
-        Ok(text)
+        Ok(if day == 0 || !text.as_str().is_empty() {
+            Some(text)
+        } else {
+            None
+        })
     }
 }
 
-/// A moment of a day, a little before its end.
+/// The same time of each day.
 fn moment_on(day: usize) -> Moment {
     Moment {
         seconds: MONDAY.seconds + 86_400 * day as i64,
@@ -244,11 +246,19 @@ fn compare(
         (queued.dropped_lines(), queued.faults().writes),
         (table.dropped, table.lost)
     );
-    let mut text = String::new(alloc);
-    for file in &queued.appender().folder().files()? {
-        text.push_str(str::from_utf8(file.bytes).ok().unwrap_or("not UTF-8"))?;
+    let files = queued.appender().folder().files()?;
+    let mut number = 0;
+    for day in 0..DAYS {
+        if let Some(text) = table.text(alloc, day)? {
+            let name = format!(in alloc; "2025-02-{}", 17 + day)?;
+            let file = files.get(number).ok_or("a file of the day")?;
+            assert_eq!(rt; file.name, name.as_str());
+            let shown = str::from_utf8(file.bytes).ok().unwrap_or("not UTF-8");
+            assert_eq!(rt; shown, text.as_str());
+            number += 1;
+        }
     }
-    assert_eq!(rt; text, table.text(alloc)?);
+    assert_eq!(rt; files.len(), number);
     Ok(())
 }
 

@@ -73,7 +73,7 @@ fn lines_of_a_lossy_queue_are_counted(rt: HostRuntime) -> Result<(), Fail> {
         (2, 1, 0, 1)
     );
     assert_eq!(rt; queue.dropped_lines(), 2);
-    assert_eq!(rt; trace.lost(0, 0), Some(3));
+    assert_eq!(rt; trace.lost(0), Some(3));
     let text = texts(rt.alloc(), queued(&trace)?)?;
     assert!(rt; text.as_str().ends_with("INFO app: a\n"));
     Ok(())
@@ -115,7 +115,11 @@ fn lines_of_a_waiting_queue_are_held_or_lost(rt: HostRuntime) -> Result<(), Fail
         (0, 1, 0)
     );
     assert!(rt; sink.faults().last.is_none());
-    assert_eq!(rt; trace.lost(0, 0), Some(1));
+    assert_eq!(rt; (trace.starved(0), trace.lost(0)), (Some(0), Some(1)));
+    let sink = trace.sink(0).ok_or("a sink")?;
+    assert_eq!(rt; (sink.held(), sink.dropped_lines()), (Some(0), Some(0)));
+    assert_eq!(rt; sink.faults().writes, 1);
+    assert_eq!(rt; sink.appender().faults().writes, 0);
     Ok(())
 }
 
@@ -140,6 +144,7 @@ fn a_released_stacks_queue_can_be_worked_until_it_is_taken(rt: HostRuntime) -> R
     assert_eq!(rt; trace.release(handle), Reply::Done);
     assert_eq!(rt; trace.work(1, 9, TUESDAY), Reply::Worked(1));
     assert_eq!(rt; trace.shutdown(1), Reply::Done);
+    assert!(rt; !trace.is_busy());
     let taken = trace.take_retired(1).ok_or("a stack")?;
     assert!(rt; trace.sink(1).is_none());
     assert_eq!(rt;

@@ -192,7 +192,8 @@ made_by_is s n (Heard passed told) range = range
 cloned_is : (s : Skeleton) (o : Option SpanName) → IsSkeletonInRange s → IsSkeletonInRange (cloned s o)
 cloned_is s None range = range
 cloned_is s (Some name) range =
-    with_is s name.stack _ range (changed_is one_more (λ x is. is) (registry_at s name.stack).spans name.id.value (spans_are s name.stack range))
+    with_is s name.stack _ range (changed_is one_more (λ x is. is) (registry_at s name.stack).spans name.id.value
+    (spans_are s name.stack range))
 
 entered_is : (s : Skeleton) (lane : ℕ) (o : Option SpanName) → IsSkeletonInRange s → IsSkeletonInRange (entered s lane o)
 entered_is s lane None range = range
@@ -349,7 +350,8 @@ module _ (Q : PlainEvent → Type 0) where
         IfSome (exit_told_by N s call o) ListsAreSaid
     exit_told_is s call None range = tt
     exit_told_is s call (Some name) range =
-        λ outs. calls_are_said _ outs (λ number. exit_is_said (registry_at s name.stack) (place_at call.lane call.moment) name.id.value number
+        λ outs. calls_are_said _ outs (λ number. exit_is_said (registry_at s name.stack) (place_at call.lane call.moment) name.id.value
+        number
         (spans_are s name.stack range))
 
     close_told_is : (s : Skeleton) (call : SpanCall) (o : Option SpanName) → IsSkeletonInRange s →

@@ -20,7 +20,8 @@ use Rattle.span_tracing_outputs.specs.OutputMachines.{Fate, Fated, Happened, OnS
 use Rattle.span_tracing_outputs.specs.OutputFolds.{Fates, Numbered, first_of, outs_told, rest_of}
 use Rattle.span_tracing_outputs.specs.OutputSettings.{out_set, outs_set}
 use Rattle.span_tracing_outputs.specs.TraceFollows.{at_rest, lines_offered}
-use Rattle.span_tracing_skeleton.specs.PlainData.{AnyStep, OfQueue, OfTrace, PlainStep, Request, GlobalStep, EventStep, EnabledStep, SpanStep, RecordStep}
+use Rattle.span_tracing_skeleton.specs.PlainData.{AnyStep, OfQueue, OfTrace, PlainStep, Request, GlobalStep, EventStep, EnabledStep}
+use Rattle.span_tracing_skeleton.specs.PlainData.{SpanStep, RecordStep}
 use Rattle.span_tracing_skeleton.specs.PlainData.{FollowsFromStep, EnterStep, ExitStep, CloneStep, CloseStep, DefaultStep, ResetStep}
 use Rattle.span_tracing_skeleton.specs.PlainData.{CloneHandleStep, ReleaseStep, SetStep}
 use Rattle.span_tracing_skeleton.specs.Skeleton.{Answers}
@@ -31,7 +32,8 @@ use Rattle.span_tracing_outputs.specs.sinks.OutputRuns.{joined}
 use Rattle.span_tracing_outputs.specs.sinks.Runs.{lines_at}
 use Rattle.span_tracing_laws.specs.json.Objects.{AreFormattedSaid, AreInRangeSaid, AreObjectLines, CanBeFormatted, IsEventInRange}
 use Rattle.span_tracing_laws.specs.json.Objects.{IsFormattedSaid, IsInRangeSaid, IsJsonOut, IsPlaceInRange, JsonRuns, WritesEach}
-use Rattle.span_tracing_laws.specs.runs.Runs.{Drove, Plain, StepWithMask, Starved, Waited, Went, lines_left, lines_of, none_for, outs_left, plain_after}
+use Rattle.span_tracing_laws.specs.runs.Runs.{Drove, Plain, StepWithMask, Starved, Waited, Went, lines_left, lines_of, none_for, outs_left}
+use Rattle.span_tracing_laws.specs.runs.Runs.{plain_after}
 use Rattle.span_tracing_laws.specs.runs.Runs.{steps_of, turn_lines}
 use Rattle.span_tracing_laws.specs.runs.StepSettings.{OutputSetting, outs_with, setting_of}
 use Rattle.span_tracing_laws.specs.runs.StepNotices.{Told, told_of, told_to}
@@ -290,10 +292,12 @@ module _ {N : Type 0} (n : Ghosts N) (laws : JsonRuns n) where
 
   pub outputs_run : JsonOutputsRun n
   outputs_run p turns skeleton range stack place o at json (inl off) =
-      run_is IsEventInRange n Quiet (λ x is. is.2) (λ x is. (rested_json x is.0, is.1, tt)) quiet_goes quiet_set ValuesInRange event_in_range stack p
+      run_is IsEventInRange n Quiet (λ x is. is.2) (λ x is. (rested_json x is.0, is.1, tt)) quiet_goes quiet_set ValuesInRange
+      event_in_range stack p
       turns place
       (skeleton, subst (λ (x : Option (Numbered N)). IfSome x (λ (y : Numbered N). Quiet y.out)) (sym at) (json.0, off, json.1)) range
   outputs_run p turns skeleton range stack place o at json (inr (each, formatted)) =
-      run_is IsBoth n Whole (λ x is. is.2) (λ x is. (rested_json x is.0, is.1, tt)) whole_goes whole_set AreBoth event_is_both stack p turns place
+      run_is IsBoth n Whole (λ x is. is.2) (λ x is. (rested_json x is.0, is.1, tt)) whole_goes whole_set AreBoth event_is_both stack p
+      turns place
       (skeleton, subst (λ (x : Option (Numbered N)). IfSome x (λ (y : Numbered N). Whole y.out)) (sym at) (json.0, each, json.1))
       (all_brought (steps_of turns) range formatted)

@@ -65,7 +65,8 @@ module _ {N E F S : Type 0} (n : Ghosts N) (line_of : E → Settings → PlainCo
 
   any_counted : (v : Traced N E F S) (step : AnyStep) (reply : Reply) (w : Traced N E F S) →
       AnyFollows n line_of g takes calls held h v step reply w → IsCounted (skeleton_of v) → IsCounted (skeleton_of w)
-  any_counted v (OfTrace step) reply w (inl (held_so, told, same)) is = subst (λ (u : Traced N E F S). IsCounted (skeleton_of u)) (sym same) is
+  any_counted v (OfTrace step) reply w (inl (held_so, told, same)) is =
+      subst (λ (u : Traced N E F S). IsCounted (skeleton_of u)) (sym same) is
   any_counted v (OfTrace step) reply w (inr (free, f)) is = stepped_counted v step reply w f is
   any_counted v (OfQueue ask) reply w f is = subst IsCounted (sym f.1.skeleton) is
 

@@ -1,5 +1,6 @@
 -- A call on a sink's queue: what it makes of the stacks, and that it leaves a trace ready.
-use Rattle.std.proofs.Common.{◌≡◌, ◌∙◌, ◌<◌, ◌==◌, Bool, true, false, ℕ, zero, suc, List, [], ◌∷◌, length, Option, Some, None, arith, refl, sym, ap, subst}
+use Rattle.std.proofs.Common.{◌≡◌, ◌∙◌, ◌<◌, ◌==◌, Bool, true, false, ℕ, zero, suc, List, [], ◌∷◌, length, Option, Some, None, arith, refl}
+use Rattle.std.proofs.Common.{sym, ap, subst}
 use Rattle.std.specs.Prelude.{slice_get, slice_set}
 use Rattle.std.specs.Cmp.{unsigned_Decides}
 use Rattle.std.proofs.lemmas.List.{length-set}
@@ -30,7 +31,8 @@ use Rattle.tracing_core_moments.specs.declared.at.At.{At}
 use Rattle.span_tracing_laws.specs.runs.DrivenSinks.{DriveKeeps, DrivenAt, DrivenIf, drives}
 use Rattle.span_tracing_laws.specs.runs.KeptStacks.{OutsAgree}
 use Rattle.span_tracing_laws.specs.runs.StepFollows.{TraceIsReady, Traced, skeleton_of}
-use Rattle.span_tracing_laws.proofs.runs.HubStacks.{became_elsewhere, became_in, set_other, set_own}
+use Rattle.span_tracing_laws.proofs.runs.HubStacks.{became_elsewhere, became_in}
+use Rattle.span_tracing_outputs.proofs.ListPlaces.{set_other, set_own}
 use Rattle.span_tracing_laws.proofs.runs.StepOutcomes.{became_ready, skeleton_stays}
 
 waits_below : {A : Type 0} (xs : List (Option A)) (i : ℕ) (x : A) → inner (slice_get xs i) ≡ Some x → i < length xs

@@ -53,7 +53,8 @@ use Rattle.span_tracing_laws.proofs.runs.HubStacks.{held_there}
 use Rattle.span_tracing_laws.proofs.runs.HubStacks.{release_skeleton, reset_skeleton}
 use Rattle.span_tracing_laws.proofs.runs.UnrefusedSteps.{open_by}
 use Rattle.span_tracing_outputs.proofs.OutputSettings.{set_ready}
-use Rattle.span_tracing_laws.proofs.runs.StepOutcomes.{unmoved, skeleton_stays, setting_after, became_ready, more_held, less_held, reset_ready}
+use Rattle.span_tracing_laws.proofs.runs.StepOutcomes.{unmoved, skeleton_stays, setting_after, became_ready, more_held, less_held}
+use Rattle.span_tracing_laws.proofs.runs.StepOutcomes.{reset_ready}
 
 module _ {N E F S : Type 0} (n : Ghosts N) (line_of : E → Settings → PlainContext → PlainEvent → Option (List ℕ)) (g : FilterGhosts F)
     (takes : S → At → PlainLine → S → Type 0) (h : LayerGhosts (Lines N E)) (sg : SubscriberGhosts (TraceStackValue N E F S))

@@ -35,20 +35,9 @@ use Rattle.span_tracing_steps.specs.States.{StateValue, behind, held_in, held_st
 use Rattle.span_tracing_steps.specs.States.{skeleton_of, stack_in}
 use Rattle.span_tracing_steps.specs.Steps as steps
 use Rattle.span_tracing_steps.specs.Steps.{CallGoes, becoming, put_away}
+use Rattle.span_tracing_outputs.proofs.ListPlaces.{set_other, set_own}
 
 -- a list with another element at a place
-pub set_own : {A : Type 0} (xs : List A) (i : ℕ) (x : A) → i < length xs → slice_get (slice_set xs i x) i ≡ Some x
-set_own [] i x inside = absurd (omega arith)
-set_own (y ∷ ys) zero x inside = refl
-set_own (y ∷ ys) (suc i) x inside = set_own ys i x (omega arith)
-
-pub set_other : {A : Type 0} (xs : List A) (i j : ℕ) (x : A) → (j == i) ≡ false → slice_get (slice_set xs i x) j ≡ slice_get xs j
-set_other [] i j x apart = refl
-set_other (y ∷ ys) zero zero x apart = absurd (cc)
-set_other (y ∷ ys) zero (suc j) x apart = refl
-set_other (y ∷ ys) (suc i) zero x apart = refl
-set_other (y ∷ ys) (suc i) (suc j) x apart = set_other ys i j x (grind arith)
-
 pub map_set : {A B : Type 0} (f : A → B) (xs : List A) (i : ℕ) (x : A) → map f (slice_set xs i x) ≡ slice_set (map f xs) i (f x)
 map_set f [] i x = refl
 map_set f (y ∷ ys) zero x = refl

@@ -1,5 +1,7 @@
--- What setup calls leave of the skeleton: where a stack was lent and came back as another value, where one is added, and where a callsite is.
-use Rattle.std.proofs.Common.{◌≡◌, ◌<◌, inl, inr, ◌==◌, ◌+◌, ℕ, Bool, true, false, List, [], ◌∷◌, ◌++◌, length, Option, Some, None, map, refl, sym, ap}
+-- What setup calls leave of the skeleton: where a stack was lent and came back as another value, where one is added, and where a callsite
+-- is.
+use Rattle.std.proofs.Common.{◌≡◌, ◌<◌, inl, inr, ◌==◌, ◌+◌, ℕ, Bool, true, false, List, [], ◌∷◌, ◌++◌, length, Option, Some, None, map}
+use Rattle.std.proofs.Common.{refl, sym, ap}
 use Rattle.std.proofs.Common.{subst, ◌∙◌}
 use Rattle.std.proofs.lemmas.List.{map-append}
 use Rattle.std.specs.Cmp.{unsigned_Decides}

@@ -57,7 +57,9 @@ use Rattle.span_tracing_laws.proofs.runs.HubStacks.{moved_by}
 use Rattle.span_tracing_laws.proofs.runs.HubStacks.{registry_there}
 use Rattle.span_tracing_laws.proofs.runs.UnrefusedSteps.{first_none}
 use Rattle.span_tracing_laws.proofs.runs.UnrefusedSteps.{ids_left, parent_known, second_none}
-use Rattle.span_tracing_laws.proofs.runs.StepOutcomes.{made, rested, event_untold, span_untold, dropped_untold, event_tells, span_tells, skeleton_after, skeleton_stays, outputs_after, told_after, parent_passed, reached_there, became_ready}
+use Rattle.span_tracing_laws.proofs.runs.StepOutcomes.{made, rested, event_untold, span_untold, dropped_untold, event_tells, span_tells}
+use Rattle.span_tracing_laws.proofs.runs.StepOutcomes.{skeleton_after, skeleton_stays, outputs_after, told_after, parent_passed}
+use Rattle.span_tracing_laws.proofs.runs.StepOutcomes.{reached_there, became_ready}
 
 module _ {N E F S : Type 0} (n : Ghosts N) (line_of : E → Settings → PlainContext → PlainEvent → Option (List ℕ)) (g : FilterGhosts F)
     (takes : S → At → PlainLine → S → Type 0) (h : LayerGhosts (Lines N E)) (sg : SubscriberGhosts (TraceStackValue N E F S))

@@ -1,5 +1,6 @@
 -- Runs follow the plain machine.
-use Rattle.std.proofs.Common.{◌≡◌, ◌==◌, inl, inr, Bool, true, false, if◌then◌else◌, ℕ, suc, List, [], ◌∷◌, map, length, Option, Some, None, refl, sym, ap, ◌∙◌, subst}
+use Rattle.std.proofs.Common.{◌≡◌, ◌==◌, inl, inr, Bool, true, false, if◌then◌else◌, ℕ, suc, List, [], ◌∷◌, map, length, Option, Some, None}
+use Rattle.std.proofs.Common.{refl, sym, ap, ◌∙◌, subst}
 use Rattle.std.specs.Option.{option_map}
 use Rattle.tracing_core_fields.specs.requests.PlainRequests.{PlainEvent}
 use Rattle.tracing_core_moments.specs.declared.at.At.{At}
@@ -35,8 +36,10 @@ use Rattle.span_tracing_laws.specs.runs.StepFollows.{FollowsStep, OutputsFollow,
 use Rattle.span_tracing_laws.specs.runs.Laws.{RunsFollow, SetupFollows}
 use Rattle.span_tracing_laws.specs.runs.AnySteps.{AnyFollows, AnyStepsFollow}
 use Rattle.span_tracing_laws.specs.runs.DrivenSinks.{DrivenAt, DrivenIf, drives}
-use Rattle.span_tracing_laws.specs.runs.Runs.{AgreesPlain, Asking, Caching, Drove, Plain, Road, RunGives, SinksMeet, Starved, StepWithMask, Waited}
-use Rattle.span_tracing_laws.specs.runs.Runs.{StepBy, TurnBy, TurnGoes, TurnsGo, Went, called_at, called_if, lines_left, none_for, outs_left, plain_after}
+use Rattle.span_tracing_laws.specs.runs.Runs.{AgreesPlain, Asking, Caching, Drove, Plain, Road, RunGives, SinksMeet, Starved, StepWithMask}
+use Rattle.span_tracing_laws.specs.runs.Runs.{Waited}
+use Rattle.span_tracing_laws.specs.runs.Runs.{StepBy, TurnBy, TurnGoes, TurnsGo, Went, called_at, called_if, lines_left, none_for}
+use Rattle.span_tracing_laws.specs.runs.Runs.{outs_left, plain_after}
 use Rattle.span_tracing_laws.specs.runs.Runs.{plain_reply, plain_run, replies_of, stack_turn, step_of, steps_of, turns_of}
 use Rattle.span_tracing_laws.specs.runs.StepNotices.{Told, told_of, told_to}
 use Rattle.span_tracing_laws.specs.runs.StepSettings.{OutputSetting, outs_with, setting_of, stack_with}
@@ -174,7 +177,8 @@ module _ {N E F S : Type 0} (n : Ghosts N) (line_of : E → Settings → PlainCo
       (outs stack) (a stack)) in (
         f.replied ∙ ap (λ (s : Skeleton). reply_of s step f.answers) same,
         (f.skeleton ∙ ap (λ (s : Skeleton). after s step f.answers) same, λ stack. (left stack).0),
-        λ stack. taken_meets (stack_in v stack) (stack_in w stack) _ (unset stack set (stack_in v stack) (stack_in w stack) _ (left stack).1),
+        λ stack. taken_meets (stack_in v stack) (stack_in w stack) _
+            (unset stack set (stack_in v stack) (stack_in w stack) _ (left stack).1),
       )
 
   stays : (o : Option Stack) (outs : List (Numbered N)) → OutsAgree n line_of g o outs → OneMeets o o (Offered (none_for outs))

@@ -1,5 +1,6 @@
 -- Setup calls leave a trace ready.
-use Rattle.std.proofs.Common.{◌≡◌, inl, inr, ℕ, ◌==◌, ◌+◌, Bool, true, false, List, [], ◌∷◌, ◌++◌, length, Option, Some, None, Result, Ok, Err}
+use Rattle.std.proofs.Common.{◌≡◌, inl, inr, ℕ, ◌==◌, ◌+◌, Bool, true, false, List, [], ◌∷◌, ◌++◌, length, Option, Some, None, Result, Ok}
+use Rattle.std.proofs.Common.{Err}
 use Rattle.std.proofs.Common.{refl, sym, ap, ◌∙◌, subst, arith}
 use Rattle.std.specs.Cmp.{unsigned_Decides}
 use Rattle.std.specs.Option.{option_map}
@@ -56,7 +57,8 @@ use Rattle.span_tracing_laws.specs.runs.Laws.{AskedFollows, Registers, SetupFoll
 use Rattle.span_tracing_laws.specs.runs.KeptStacks.{OutputsStay, OutsAgree, StackKeeps, StackStays}
 use Rattle.span_tracing_laws.proofs.runs.AskedStacks.{Alike, Pairs, appended_other, appended_own, formed_pairs, joined_pairs, pairs_at}
 use Rattle.span_tracing_laws.proofs.runs.HubStacks.{held_there, none_appended, with_number}
-use Rattle.span_tracing_laws.proofs.runs.LentStacks.{added_skeleton, asked_skeleton, asked_word, formed_skeleton, lent_other, lent_own, named_there, registered_skeleton, swapped_word, with_new}
+use Rattle.span_tracing_laws.proofs.runs.LentStacks.{added_skeleton, asked_skeleton, asked_word, formed_skeleton, lent_other, lent_own}
+use Rattle.span_tracing_laws.proofs.runs.LentStacks.{named_there, registered_skeleton, swapped_word, with_new}
 
 module _ {N E F S : Type 0} (n : Ghosts N) (line_of : E → Settings → PlainContext → PlainEvent → Option (List ℕ)) (g : FilterGhosts F)
     (takes : S → At → PlainLine → S → Type 0) (h : LayerGhosts (Lines N E)) (sg : SubscriberGhosts (TraceStackValue N E F S))

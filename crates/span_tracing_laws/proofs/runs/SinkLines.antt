@@ -124,7 +124,8 @@ module _ {N : Type 0} (n : Ghosts N) where
     offered_came runs one later at =
         ap (λ (o : Option (List (At × PlainLine))). sent_to route number (run_or_none o) ++ came_in later) at
 
-    asked_came : (b : Bool) (call : QueueCall) (reply : Reply) (later : List SinkTurn) → came_in (asked_if b call reply later) ≡ came_in later
+    asked_came : (b : Bool) (call : QueueCall) (reply : Reply) (later : List SinkTurn) →
+        came_in (asked_if b call reply later) ≡ came_in later
     asked_came true call reply later = refl
     asked_came false call reply later = refl
 

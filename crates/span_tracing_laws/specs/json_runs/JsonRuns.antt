@@ -64,7 +64,8 @@ module _ {N E F D : Type 0} (contents : D → Option Contents) where
   SinksHoldObjects v w stack place =
       (number : ℕ) (olds news : Routed (AnySink D)) (old new : RollingSink D) → routed_at (stack_in v stack) place ≡ Some olds →
       routed_at (stack_in w stack) place ≡ Some news →
-      slice_get olds.sinks number ≡ Some (Direct old) → slice_get news.sinks number ≡ Some (Direct new) → NoneDropped old new → (s : PrunedSink) →
+      slice_get olds.sinks number ≡ Some (Direct old) → slice_get news.sinks number ≡ Some (Direct new) → NoneDropped old new →
+      (s : PrunedSink) →
       AgreesSink contents old.appender s → AreObjectsHanded s.sink.handed →
       (c : Contents) → contents new.appender.folder ≡ Some c → (name : List ℕ) → FileHoldsObjects s c name
 

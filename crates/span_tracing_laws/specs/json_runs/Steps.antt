@@ -5,7 +5,8 @@ use Rattle.tracing_core_fields.specs.PlainValue.{PlainValue, debug_of}
 use Rattle.span_registry_layers_store.specs.Registries.{PlainSpan}
 use Rattle.event_formatter_text.specs.JsonLaws.{IsInRange}
 use Rattle.event_formatter_text.specs.JsonTexts.{json_value}
-use Rattle.span_tracing_skeleton.specs.PlainData.{AnyStep, OfQueue, OfTrace, PlainStep, GlobalStep, EventStep, EnabledStep, SpanStep, RecordStep, FollowsFromStep}
+use Rattle.span_tracing_skeleton.specs.PlainData.{AnyStep, OfQueue, OfTrace, PlainStep, GlobalStep, EventStep, EnabledStep, SpanStep}
+use Rattle.span_tracing_skeleton.specs.PlainData.{RecordStep, FollowsFromStep}
 use Rattle.span_tracing_skeleton.specs.PlainData.{EnterStep, ExitStep, CloneStep, CloseStep, DefaultStep, ResetStep, CloneHandleStep}
 use Rattle.span_tracing_skeleton.specs.PlainData.{ReleaseStep, SetStep}
 use Rattle.span_tracing_skeleton.specs.Skeleton.{HeldStack, Skeleton}

@@ -45,8 +45,8 @@ abbrev pub FileTrace : Type 0 → Type 0 → Type 0 → Type 0 → Type 0
 FileTrace N E F D = Traced N E F (Routed (AnySink D))
 
 module _ {N E F D : Type 0} (n : Ghosts N) where
-  -- what comes to the sink with a number of the output at a place, in order, as the plain machine has it: those lines of the output's machine
-  -- that the route sends there, and the calls on its queue
+  -- what comes to the sink with a number of the output at a place, in order, as the plain machine has it: those lines of the output's
+  -- machine that the route sends there, and the calls on its queue
   abbrev pub sink_turns : FileTrace N E F D → Plain N → List StepWithMask → ℕ → ℕ → ℕ → Route → List SinkTurn
   sink_turns v p turns stack place number route =
       turns_for (stack_sinks (stack_in v stack)) place number route (turns_of n p turns stack)
@@ -64,9 +64,9 @@ module _ {N E F D : Type 0} (contents : D → Option Contents) (failed : D → �
     pub lines : came_in (sink_turns n v p turns stack place number olds.route) ≡ sent_to olds.route number run
     pub met : SinkMeetsAll contents failed (sink_turns n v p turns stack place number olds.route) old new
 
-  -- Each sink of each output of each stack met just what came to it, whatever came to the other sinks: those lines of the output's machine that
-  -- the route sends there, in order, each at its own moment, and the calls on its queue. What that says of looks, openings and writes over
-  -- any folder the laws of sinks tell.
+  -- Each sink of each output of each stack met just what came to it, whatever came to the other sinks: those lines of the output's machine
+  -- that the route sends there, in order, each at its own moment, and the calls on its queue. What that says of looks, openings and writes
+  -- over any folder the laws of sinks tell.
   abbrev pub SinksMetTheirs : FileTrace N E F D → List StepWithMask → FileTrace N E F D → Type 0
   SinksMetTheirs v turns w =
       (p : Plain N) → AgreesPlain n line_of g v p → (stack place : ℕ) (olds : Routed (AnySink D)) →
@@ -74,23 +74,22 @@ module _ {N E F D : Type 0} (contents : D → Option Contents) (failed : D → �
       (run : List (At × PlainLine)) × (slice_get (lines_of n p turns stack) place ≡ Some run) ×
       ((number : ℕ) (old : AnySink D) → slice_get olds.sinks number ≡ Some old → SinkMet v p turns w stack place olds run number old)
 
-  -- Where a direct sink of an output dropped no line and its folder's contents are known, exactly those lines of the output's machine that the
-  -- route sends to it stand in its
-  -- files, but in those that retention removed: behind what was found there and was handed over before, whole and in order, each in the
-  -- file of the period in which the
-  -- greatest moment so far lay.
+  -- Where a direct sink of an output dropped no line and its folder's contents are known, exactly those lines of the output's machine that
+  -- the route sends to it stand in its files, but in those that retention removed: behind what was found there and was handed over before,
+  -- whole and in order, each in the file of the period in which the greatest moment so far lay.
   abbrev pub FilesStand : FileTrace N E F D → List StepWithMask → FileTrace N E F D → Type 0
   FilesStand v turns w =
       (p : Plain N) → AgreesPlain n line_of g v p → (stack place number : ℕ) (olds news : Routed (AnySink D))
       (old new : RollingSink D) → routed_at (stack_in v stack) place ≡ Some olds → routed_at (stack_in w stack) place ≡ Some news →
-      slice_get olds.sinks number ≡ Some (Direct old) → slice_get news.sinks number ≡ Some (Direct new) → NoneDropped old new → (s : PrunedSink) →
+      slice_get olds.sinks number ≡ Some (Direct old) → slice_get news.sinks number ≡ Some (Direct new) → NoneDropped old new →
+      (s : PrunedSink) →
       AgreesSink contents old.appender s → (c : Contents) → contents new.appender.folder ≡ Some c →
       (run : List (At × PlainLine)) × (slice_get (lines_of n p turns stack) place ≡ Some run) ×
       ((led : LeftBy contents (sent_to olds.route number run) s old.appender new.appender) × LinesStand led.last c)
 
-  -- Exactly those lines of the output's machine that the route sends to a queued sink came to its queue, in order, and between them the calls
-  -- on the queue. Each line was queued, dropped, held or lost as the queue says, or found no memory; what a worker's step took went to the
-  -- files at the step's moment; and nothing else was written.
+  -- Exactly those lines of the output's machine that the route sends to a queued sink came to its queue, in order, and between them the
+  -- calls on the queue. Each line was queued, dropped, held or lost as the queue says, or found no memory; what a worker's step took went
+  -- to the files at the step's moment; and nothing else was written.
   abbrev pub QueuesWork : FileTrace N E F D → List StepWithMask → FileTrace N E F D → Type 0
   QueuesWork v turns w =
       (p : Plain N) → AgreesPlain n line_of g v p → (stack place number : ℕ) (olds news : Routed (AnySink D))
@@ -115,7 +114,8 @@ module _ {N E F D : Type 0} (contents : D → Option Contents) (failed : D → �
     -- a run, what came to its sinks, what the files of direct ones hold, and what the queues of the others did and their files hold
     pub record RunsToFiles (road : Road) (v : FileTrace N E F D) (steps : List AnyStep) (replies : List Reply) (w : FileTrace N E F D) :
         Type 0 where
-      pub run : RunFollows n line_of g (TakesRouted (TakesAny contents failed)) (CallsIn contents failed) outputs_hold h road v steps replies w
+      pub run : RunFollows n line_of g (TakesRouted (TakesAny contents failed)) (CallsIn contents failed) outputs_hold h road v steps
+          replies w
       pub sinks : SinksMetTheirs v run.turns w
       pub files : FilesStand v run.turns w
       pub queues : QueuesWork v run.turns w
@@ -123,4 +123,5 @@ module _ {N E F D : Type 0} (contents : D → Option Contents) (failed : D → �
 
     abbrev pub FilesFollow : Type 0
     FilesFollow = (road : Road) (v : FileTrace N E F D) (steps : List AnyStep) (replies : List Reply) (w : FileTrace N E F D) →
-        RunFollows n line_of g (TakesRouted (TakesAny contents failed)) (CallsIn contents failed) outputs_hold h road v steps replies w → RunsToFiles road v steps replies w
+        RunFollows n line_of g (TakesRouted (TakesAny contents failed)) (CallsIn contents failed) outputs_hold h road v steps replies w →
+        RunsToFiles road v steps replies w

@@ -113,7 +113,8 @@ module _ {N E F S : Type 0} (n : Ghosts N) (line_of : E → Settings → PlainCo
     pub acted : (v : Traced N E F S) (step : PlainStep) (reply : Reply) (w : Traced N E F S) → TraceIsReady g h v →
         StepGives sg registry_of stack_set v step reply w → IsCounted (skeleton_of v) → IsCounted (skeleton_of w)
     pub stepped : (v : Traced N E F S) (step : AnyStep) (reply : Reply) (w : Traced N E F S) → TraceIsReady g h v →
-        AnyStepGives sg registry_of stack_set (drives calls) (holds held) v step reply w → IsCounted (skeleton_of v) → IsCounted (skeleton_of w)
+        AnyStepGives sg registry_of stack_set (drives calls) (holds held) v step reply w → IsCounted (skeleton_of v) →
+        IsCounted (skeleton_of w)
     pub asked : (v w : Traced N E F S) → TraceIsReady g h v → AsksAnew sg v w → IsCounted (skeleton_of v) → IsCounted (skeleton_of w)
     pub ran : (road : Road) (v : Traced N E F S) (steps : List AnyStep) (replies : List Reply) (w : Traced N E F S) → TraceIsReady g h v →
         RunGives sg calls held road v steps replies w → IsCounted (skeleton_of v) → IsCounted (skeleton_of w)

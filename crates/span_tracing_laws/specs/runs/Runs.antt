@@ -86,7 +86,8 @@ module _ {N : Type 0} (n : Ghosts N) where
   abbrev pub plain_after : Plain N → StepWithMask → Plain N
   plain_after p (Went step a fates) = record {
     skeleton = after p.skeleton step a;
-    outs = λ stack. outs_left (told_to N stack (told_of N p.skeleton step a)) (outs_with stack (setting_of p.skeleton step) (p.outs stack)) fates;
+    outs = λ stack. outs_left (told_to N stack (told_of N p.skeleton step a))
+        (outs_with stack (setting_of p.skeleton step) (p.outs stack)) fates;
   }
   plain_after p (Starved step) = p
   plain_after p (Waited step) = p

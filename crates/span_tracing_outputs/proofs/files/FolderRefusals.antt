@@ -108,7 +108,8 @@ module _ {D : Type 0} (failed : D → ℕ) (key : OutputKey) (told : OpenStackEr
   late_sink (Direct builder folder) refuses good = late_files builder folder refuses good
   late_sink (Queued builder folder limit lossy) (inl (at, none)) good =
       absurd (limitless (builder_names builder) (subst (λ (n : ℕ). LimitTells (n == 0) (builder_names builder) None) none good))
-  late_sink (Queued builder folder limit lossy) (inr refuses) good = late_files builder folder refuses (named (limit == 0) (builder_names builder) good)
+  late_sink (Queued builder folder limit lossy) (inr refuses) good =
+      late_files builder folder refuses (named (limit == 0) (builder_names builder) good)
 
   one_late : (sink : SinkSpec D) (sinks : List (SinkSpec D)) → FolderTells failed key told sink ⊎ (told ≡ at_output key OutOfMemory) →
       IsLate failed key told (sink ∷ sinks)

@@ -41,7 +41,7 @@ hands_known names m h line (Err OutOfMemory) b f l after (inl missed) = starved_
 hands_known names m h line (Err OutOfMemory) b f l after (inr over) = (over.writes.left.contents, over.writes.left.is)
 
 -- a sink that was handed one line and then more
-with_more : (s : PlainSink) (h : Handed) (hs : List Handed) → with_all (with_handed s h) hs ≡ with_all s (h ∷ hs)
+pub with_more : (s : PlainSink) (h : Handed) (hs : List Handed) → with_all (with_handed s h) hs ≡ with_all s (h ∷ hs)
 with_more s h hs = ap (λ (all : List Handed). record s { handed = all }) (append_assoc s.handed (h ∷ []) hs)
 
 module _ {D : Type 0} (contents : D → Option Contents) (failed : D → ℕ) where

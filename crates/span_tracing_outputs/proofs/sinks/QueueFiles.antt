@@ -6,8 +6,9 @@ use Rattle.tracing_core_moments.specs.declared.moment.Moment.{Moment}
 use Rattle.tracing_core_moments.specs.Moments.{is_moment}
 use Rattle.tracing_appender_rolling.specs.folders.Contents.{Contents}
 use Rattle.tracing_appender_rolling.specs.Builders.{builder_names}
-use Rattle.tracing_appender_rolling.specs.PrunedSinks.{AgreesSink, KeptIn, PrunedSink}
-use Rattle.tracing_appender_rolling.specs.Sinks.{Handed}
+use Rattle.tracing_appender_rolling.specs.PrunedSinks.{AgreesSink, KeepsEveryFile, KeptIn, PrunedSink}
+use Rattle.tracing_appender_rolling.specs.Sinks.{Handed, PlainSink, with_handed}
+use Rattle.tracing_appender_rolling.proofs.FaultlessSwitch.{pruned_none}
 use Rattle.tracing_appender_rolling.specs.declared.appender.RollingFileAppender.{RollingFileAppender}
 use Rattle.tracing_appender_queue.specs.declared.queued.fate.AdmitError.{AdmitError}
 use Rattle.tracing_appender_queue.specs.declared.queued.fate.AdmitError.TheVariants as admit
@@ -15,15 +16,19 @@ use Rattle.tracing_appender_queue.specs.declared.queued.fate.Fate.{Fate}
 use Rattle.tracing_appender_queue.specs.declared.queued.queued_sink.QueuedSink.{QueuedSink}
 use Rattle.tracing_appender_queue.specs.declared.state.MarkError.{MarkError}
 use Rattle.tracing_appender_queue.specs.declared.state.MarkError.TheVariants as mark
-use Rattle.tracing_appender_queue.specs.worker.Batches.{queue_in}
+use Rattle.tracing_appender_queue.specs.worker.Batches.{lines_in, queue_in}
+use Rattle.tracing_appender_queue.specs.worker.Steps.{with_left, with_lines}
+use Rattle.tracing_appender_queue.specs.queued.QueuedWork.{handed_at, left_at}
 use Rattle.tracing_appender_queue.specs.queued.ExactCounts.{DropsAreExact}
 use Rattle.tracing_appender_queue.specs.queued.HeldLines.{admitted_as, moved_first, without_first, worked}
 use Rattle.tracing_appender_queue.specs.queued.LineFates.{SettlesAll, WaitingLines, is_missed, missed_in, more, settled_as}
 use Rattle.span_tracing_skeleton.specs.declared.call.Reply.{Reply}
 use Rattle.span_tracing_skeleton.specs.declared.queue_call.QueueCall.TheVariants.{Admit, Shutdown, Work}
 use Rattle.span_tracing_outputs.specs.sinks.AnySinks.{Shuts, WorksIf, admit_reply, bytes_in, shutdown_reply}
-use Rattle.span_tracing_outputs.specs.sinks.QueueFiles.{QueuesStand, after_admit, after_shutdown}
+use Rattle.span_tracing_outputs.specs.sinks.Fates.{with_all}
+use Rattle.span_tracing_outputs.specs.sinks.QueueFiles.{Leaves, QueuesStand, StepLeads, TurnLeads, TurnsLead, after_admit, after_shutdown}
 use Rattle.span_tracing_outputs.specs.sinks.QueueFiles.{handed_all, handed_by, handed_if, settled_by, waits_after, waits_all, worked_if}
+use Rattle.span_tracing_outputs.proofs.sinks.Fates.{with_more}
 use Rattle.span_tracing_outputs.proofs.sinks.LinesInFiles.{stands}
 use Rattle.span_tracing_outputs.specs.sinks.SinkTurns.{Asked, Came, QueueMeets, QueueMeetsAll, SinkTurn}
 
@@ -33,7 +38,8 @@ none_missed fate fates none = by_head (is_missed fate) refl none where
   by_head : (b : Bool) → is_missed fate ≡ b → (if is_missed fate then 1 else 0) + missed_in fates ≡ 0 →
       (is_missed fate ≡ false) × (missed_in fates ≡ 0)
   by_head true is sum =
-      let one : 1 + missed_in fates ≡ 0 = sym (ap (λ (c : Bool). (if c then 1 else 0) + missed_in fates) is) ∙ sum in absurd (omega (arith, one))
+      let one : 1 + missed_in fates ≡ 0 = sym (ap (λ (c : Bool). (if c then 1 else 0) + missed_in fates) is) ∙
+      sum in absurd (omega (arith, one))
   by_head false is sum =
       let rest : 0 + missed_in fates ≡ 0 = sym (ap (λ (c : Bool). (if c then 1 else 0) + missed_in fates) is) ∙ sum in
       (is, omega (arith, rest))
@@ -48,6 +54,25 @@ settled_plain w new (l ∷ ls) (f ∷ fs) (inl came, rest) none =
     ap (λ (g : Fate). settled_by ls (settled_as g l w)) came
 settled_plain w new (l ∷ ls) (f ∷ fs) (inr missed, rest) none =
     absurd (let clash : true ≡ false = sym (ap is_missed missed.0) ∙ (none_missed f fs none).0 in cc)
+
+-- sinks that were handed lines
+with_both : (s : PlainSink) (hs gs : List Handed) → with_all (with_all s hs) gs ≡ with_all s (hs ++ gs)
+with_both s hs gs = ap (λ (all : List Handed). record s { handed = all }) (append_assoc s.handed hs gs)
+
+lines_all : (s : PlainSink) (lines : List (List ℕ)) (m : Moment) → with_lines s lines m ≡ with_all s (handed_at m lines)
+lines_all s [] m = ap (λ (handed : List Handed). record s { handed = handed }) (sym (append-nil s.handed))
+lines_all s (l ∷ ls) m =
+    let h : Handed = record { line = l; moment = m } in lines_all (with_handed s h) ls m ∙ with_more s h (handed_at m ls)
+
+none_more_handed : (p : PrunedSink) → p ≡ record p { sink = with_all p.sink [] }
+none_more_handed p = ap (λ (handed : List Handed). record p { sink = record p.sink { handed = handed } }) (sym (append-nil p.sink.handed))
+
+whole_left : (p : PrunedSink) (lines : List (List ℕ)) (m : Moment) (c : Contents) → KeepsEveryFile p.sink.names →
+    left_at p lines m c ≡ record p { sink = with_all p.sink (handed_at m lines) }
+whole_left p [] m c all = none_more_handed p
+whole_left p (l ∷ ls) m c all =
+    ap (λ (q : PrunedSink). with_left q (l ∷ ls) m) (pruned_none p m c all)
+    ∙ ap (λ (s : PlainSink). record p { sink = s }) (lines_all p.sink (l ∷ ls) m)
 
 -- counts that stop at the greatest number
 more_least : (x a : ℕ) → x ≤ 2 ^ 64 - 1 → x ≤ more x a
@@ -146,38 +171,20 @@ module _ {D : Type 0} (contents : D → Option Contents) (failed : D → ℕ) (e
       absurd (subst (λ (o : Option Contents). KeptIn o (builder_names a.builder) a.boundary a.current p) is agrees)
   known_at (Some c) a p is agrees = (c, is)
 
-  -- one turn
-  record One (t : SinkTurn) (old new : QueuedSink D) (p : PrunedSink) : Type 0 where
-    pub waiting : new.waiting ≡ waits_after t old.waiting
-    pub last : PrunedSink
-    pub agrees : AgreesSink contents new.appender last
-    pub names : last.sink.names ≡ p.sink.names
-    pub opened : last.sink.opened ≡ p.sink.opened
-    pub handed : last.sink.handed ≡ p.sink.handed ++ handed_by t old.waiting
-    pub faults : new.appender.faults ≡ old.appender.faults
-
-  -- one that writes nothing
-  resting : (t : SinkTurn) (old new : QueuedSink D) (p : PrunedSink) → new.waiting ≡ waits_after t old.waiting →
-      handed_by t old.waiting ≡ [] → new.appender ≡ old.appender → AgreesSink contents old.appender p → One t old new p
-  resting t old new p waits none files agrees = record {
-    waiting = waits;
+  -- nothing was written
+  resting : (waits : WaitingLines) (leads : PrunedSink → Type 0) (old new : QueuedSink D) (p : PrunedSink) → new.waiting ≡ waits → leads p →
+      new.appender ≡ old.appender → AgreesSink contents old.appender p → Leaves contents failed waits [] leads old new p
+  resting waits leads old new p is led files agrees = record {
+    waiting = is;
     last = p;
+    led = led;
     agrees = subst (λ (a : RollingFileAppender D). AgreesSink contents a p) (sym files) agrees;
     names = refl;
     opened = refl;
-    handed = sym (ap (λ (hs : List Handed). p.sink.handed ++ hs) none ∙ append-nil p.sink.handed);
+    handed = sym (append-nil p.sink.handed);
+    whole = λ all. none_more_handed p;
     faults = ap (λ (a : RollingFileAppender D). a.faults) files;
   }
-
-  -- of a worker's step: what waits and what was handed over
-  record Works (b : Bool) (k : ℕ) (m : Moment) (old new : QueuedSink D) (p : PrunedSink) : Type 0 where
-    pub waiting : new.waiting ≡ worked_if b k old.waiting
-    pub last : PrunedSink
-    pub agrees : AgreesSink contents new.appender last
-    pub names : last.sink.names ≡ p.sink.names
-    pub opened : last.sink.opened ≡ p.sink.opened
-    pub handed : last.sink.handed ≡ p.sink.handed ++ handed_if b k m old.waiting
-    pub faults : new.appender.faults ≡ old.appender.faults
 
   worked_plain : (k missed : ℕ) (w : WaitingLines) → missed ≡ 0 → w.missed ≤ 2 ^ 64 - 1 →
       worked k missed w ≡ record w { queue = queue_in k w.queue }
@@ -187,7 +194,8 @@ module _ {D : Type 0} (contents : D → Option Contents) (failed : D → ℕ) (e
 
   works : (b : Bool) (k : ℕ) (m : Moment) (old : QueuedSink D) (reply : Reply) (new : QueuedSink D) (p : PrunedSink) →
       WorksIf contents failed b k m old reply new → new.waiting.missed ≡ old.waiting.missed → old.waiting.missed < 2 ^ 64 - 1 →
-      AgreesSink contents old.appender p → Works b k m old new p
+      AgreesSink contents old.appender p → Leaves contents failed (worked_if b k old.waiting) (handed_if b k m old.waiting)
+      (λ last. StepLeads contents failed b k m p old last) old new p
   works true k m old reply new p (batched, goes, told) same few agrees =
       let none : batched.missed ≡ 0 = none_more old.waiting.missed batched.missed few
       (sym (ap (λ (w : WaitingLines). w.missed) goes.waiting) ∙ same) in
@@ -196,67 +204,41 @@ module _ {D : Type 0} (contents : D → Option Contents) (failed : D → ℕ) (e
       record {
         waiting = goes.waiting ∙ worked_plain k batched.missed old.waiting none (omega (arith, few));
         last = left.last;
+        led = (at.0, at.1, left.last_is);
         agrees = left.agrees;
         names = left.names;
         opened = left.opened;
         handed = left.handed;
+        whole = λ all. left.last_is ∙ whole_left p (lines_in k old.waiting.queue) m at.0 all;
         faults = left.counts;
       }
-  works false k m old reply new p (told, is) same few agrees = record {
-    waiting = ap (λ (s : QueuedSink D). s.waiting) is;
-    last = p;
-    agrees = subst (λ (s : QueuedSink D). AgreesSink contents s.appender p) (sym is) agrees;
-    names = refl;
-    opened = refl;
-    handed = sym (append-nil p.sink.handed);
-    faults = ap (λ (s : QueuedSink D). s.appender.faults) is;
-  }
+  works false k m old reply new p (told, is) same few agrees =
+      resting old.waiting (λ last. last ≡ p) old new p (ap (λ (s : QueuedSink D). s.waiting) is) refl
+      (ap (λ (s : QueuedSink D). s.appender) is) agrees
 
   one_turn : (t : SinkTurn) (old new : QueuedSink D) (p : PrunedSink) → QueueMeets contents failed t old new →
-      new.waiting.missed ≡ old.waiting.missed → old.waiting.missed < 2 ^ 64 - 1 → AgreesSink contents old.appender p → One t old new p
+      new.waiting.missed ≡ old.waiting.missed → old.waiting.missed < 2 ^ 64 - 1 → AgreesSink contents old.appender p →
+      Leaves contents failed (waits_after t old.waiting) (handed_by t old.waiting) (λ last. TurnLeads contents failed t p old last) old new p
   one_turn (Came lines) old new p goes same few agrees =
       let counts = (exact old.waiting new.waiting (bytes_in lines) goes.fates goes.settled).missed (omega (arith, few)) in
       let none : missed_in goes.fates ≡ 0 = none_more old.waiting.missed (missed_in goes.fates) few (sym counts ∙ same) in
-      resting (Came lines) old new p (settled_plain old.waiting new.waiting (bytes_in lines) goes.fates goes.settled none) refl goes.files agrees
-  one_turn (Asked (Work k m) reply) old new p goes same few agrees =
-      let step = works (is_moment m) k m old reply new p goes same few agrees in
-      record {
-        waiting = step.waiting;
-        last = step.last;
-        agrees = step.agrees;
-        names = step.names;
-        opened = step.opened;
-        handed = step.handed;
-        faults = step.faults;
-      }
+      resting (settled_by (bytes_in lines) old.waiting) (λ last. last ≡ p) old new p
+      (settled_plain old.waiting new.waiting (bytes_in lines) goes.fates goes.settled none) refl goes.files agrees
+  one_turn (Asked (Work k m) reply) old new p goes same few agrees = works (is_moment m) k m old reply new p goes same few agrees
   one_turn (Asked Admit reply) old new p (result, admits, files, told) same few agrees =
-      resting (Asked Admit reply) old new p
+      resting (after_admit reply old.waiting) (λ last. last ≡ p) old new p
       (admits.left ∙ admitted_so result old.waiting ∙ ap (λ (r : Reply). after_admit r old.waiting) (sym told)) refl files agrees
   one_turn (Asked Shutdown reply) old new p (result, shuts, files, told) same few agrees =
-      resting (Asked Shutdown reply) old new p
+      resting (after_shutdown reply old.waiting) (λ last. last ≡ p) old new p
       (shut_so result old new shuts ∙ ap (λ (r : Reply). after_shutdown r old.waiting) (sym told)) refl files agrees
 
-  -- turns in order
-  record Many (ts : List SinkTurn) (old new : QueuedSink D) (p : PrunedSink) : Type 0 where
-    pub waiting : new.waiting ≡ waits_all ts old.waiting
-    pub last : PrunedSink
-    pub agrees : AgreesSink contents new.appender last
-    pub names : last.sink.names ≡ p.sink.names
-    pub opened : last.sink.opened ≡ p.sink.opened
-    pub handed : last.sink.handed ≡ p.sink.handed ++ handed_all ts old.waiting
-    pub faults : new.appender.faults ≡ old.appender.faults
-
   many : (ts : List SinkTurn) (old new : QueuedSink D) (p : PrunedSink) → QueueMeetsAll contents failed ts old new →
-      new.waiting.missed ≡ old.waiting.missed → old.waiting.missed < 2 ^ 64 - 1 → AgreesSink contents old.appender p → Many ts old new p
-  many [] old new p is same few agrees = record {
-    waiting = ap (λ (s : QueuedSink D). s.waiting) is;
-    last = p;
-    agrees = subst (λ (s : QueuedSink D). AgreesSink contents s.appender p) (sym is) agrees;
-    names = refl;
-    opened = refl;
-    handed = sym (append-nil p.sink.handed);
-    faults = ap (λ (s : QueuedSink D). s.appender.faults) is;
-  }
+      new.waiting.missed ≡ old.waiting.missed → old.waiting.missed < 2 ^ 64 - 1 → AgreesSink contents old.appender p →
+      Leaves contents failed (waits_all ts old.waiting) (handed_all ts old.waiting) (λ last. TurnsLead contents failed ts p old new last)
+      old new p
+  many [] old new p is same few agrees =
+      resting old.waiting (λ last. (new ≡ old) × (last ≡ p)) old new p (ap (λ (s : QueuedSink D). s.waiting) is) (is, refl)
+      (ap (λ (s : QueuedSink D). s.appender) is) agrees
   many (t ∷ ts) old new p (mid, first, rest) same few agrees =
       let grown = turn_grows t old mid first (omega (arith, few)) in
       let later_grown = all_grow ts mid new rest grown.few in
@@ -269,25 +251,22 @@ module _ {D : Type 0} (contents : D → Option Contents) (failed : D → ℕ) (e
       record {
         waiting = later.waiting ∙ ap (waits_all ts) one.waiting;
         last = later.last;
+        led = (mid, one.last, first, one.led, later.led);
         agrees = later.agrees;
         names = later.names ∙ one.names;
         opened = later.opened ∙ one.opened;
         handed = later.handed ∙ ap (λ (hs : List Handed). hs ++ handed_all ts mid.waiting) one.handed ∙
             append_assoc p.sink.handed (handed_by t old.waiting) (handed_all ts mid.waiting) ∙
             ap (λ (w : WaitingLines). p.sink.handed ++ (handed_by t old.waiting ++ handed_all ts w)) one.waiting;
+        whole = λ all.
+            later.whole (subst KeepsEveryFile (sym one.names) all)
+            ∙ ap (λ (q : PrunedSink). record q { sink = with_all q.sink (handed_all ts mid.waiting) }) (one.whole all)
+            ∙ ap (λ (s : PlainSink). record p { sink = s }) (with_both p.sink (handed_by t old.waiting) (handed_all ts mid.waiting))
+            ∙ ap (λ (w : WaitingLines). record p { sink = with_all p.sink (handed_by t old.waiting ++ handed_all ts w) }) one.waiting;
         faults = later.faults ∙ one.faults;
       }
 
   pub queues_stand : QueuesStand contents failed
   queues_stand ts old new goes none p agrees =
       let all = many ts old new p goes none.stayed none.not_full agrees in
-      record {
-        waiting = all.waiting;
-        last = all.last;
-        agrees = all.agrees;
-        names = all.names;
-        opened = all.opened;
-        handed = all.handed;
-        faults = all.faults;
-        stand = λ c known. stands contents all.last new.appender c all.agrees known;
-      }
+      record { leaves = all; stand = λ c known. stands contents all.last new.appender c all.agrees known }

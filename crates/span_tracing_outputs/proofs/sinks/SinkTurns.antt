@@ -1,5 +1,6 @@
 -- Each sink of a stack meets just what comes to it.
-use Rattle.std.proofs.Common.{◌≡◌, ◌∙◌, ◌==◌, ℕ, suc, Bool, true, false, if◌then◌else◌, List, [], ◌∷◌, map, length, Option, Some, None, arith}
+use Rattle.std.proofs.Common.{◌≡◌, ◌∙◌, ◌==◌, ℕ, suc, Bool, true, false, if◌then◌else◌, List, [], ◌∷◌, map, length, Option, Some, None}
+use Rattle.std.proofs.Common.{arith}
 use Rattle.std.proofs.Common.{refl, sym, ap, subst, nat_lt, ◌-◌, ◌+◌}
 use Rattle.std.specs.Prelude.{slice_get, slice_set}
 use Rattle.std.specs.Cmp.{unsigned_Decides}
@@ -180,7 +181,8 @@ module _ {D : Type 0} (contents : D → Option Contents) (failed : D → ℕ) wh
   there_at at place number b here is = ap (λ (c : Bool). if c then at.sink == number else false) here ∙ is
 
   -- the call is for a sink of the same output
-  module _ (at : SinkPlace) (call : QueueCall) (olds : List Sinks) (reply : Reply) (news : List Sinks) (place : ℕ) (old : Sinks) (number : ℕ)
+  module _ (at : SinkPlace) (call : QueueCall) (olds : List Sinks) (reply : Reply) (news : List Sinks) (place : ℕ) (old : Sinks)
+      (number : ℕ)
       (sink : AnySink D) (routed : Sinks) (stands : slice_get news place ≡ Some routed) (route : routed.route ≡ old.route)
       (its : slice_get old.sinks number ≡ Some sink) (here : (at.output == place) ≡ true) where
     other_sink : (q : Option (AnySink D)) → (at.sink == number) ≡ false →

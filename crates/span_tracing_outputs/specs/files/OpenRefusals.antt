@@ -122,8 +122,8 @@ module _ {F D : Type 0} (failed : D → ℕ) where
   IsToldOf specs None told =
       InOne (λ (spec : OutputSpec F D). IsLate failed spec.key told spec.sinks.items) specs ⊎ (told ≡ of_all OutOfMemory)
 
-  -- all queues of a stack that is made have room, and all names are good; of one that isn't the first that hasn't is told, or what comes after
-  -- names
+  -- all queues of a stack that is made have room, and all names are good; of one that isn't the first that hasn't is told, or what comes
+  -- after names
   abbrev pub NamesAnswer : {A : Type 0} → List (OutputSpec F D) → Result A OpenStackError → Type 0
   NamesAnswer specs (Ok made) = OutputsTell specs None
   NamesAnswer specs (Err told) = (wrong : Option (OutputKey × Refusal)) × OutputsTell specs wrong × IsToldOf specs wrong told

@@ -1,11 +1,12 @@
 -- A sink, direct or queued, and calls on its queue.
-use Rattle.std.specs.Prelude.{◌≡◌, ◌≤◌, ℕ, Bool, true, false, List, length, map, Option, Some, Result, Ok, Err}
+use Rattle.std.specs.Prelude.{◌≡◌, ◌≤◌, ℕ, Bool, true, false, List, length, map, Option, Some, None, Result, Ok, Err}
 use Rattle.tracing_core_moments.specs.declared.at.At.{At}
 use Rattle.tracing_core_moments.specs.declared.moment.Moment.{Moment}
 use Rattle.tracing_core_moments.specs.Moments.{is_moment}
 use Rattle.tracing_appender_rolling.specs.Builders.{builder_names}
 use Rattle.tracing_appender_rolling.specs.folders.Contents.{Contents}
 use Rattle.tracing_appender_rolling.specs.Looks.{Held}
+use Rattle.tracing_appender_rolling.specs.declared.faults.Faults.{Faults}
 use Rattle.tracing_appender_rolling.specs.Appenders.{Holds}
 use Rattle.tracing_appender_rolling.specs.PrunedSinks.{PrunedSink, AgreesSink}
 use Rattle.tracing_appender_queue.specs.Queue.{after_mark}
@@ -20,12 +21,13 @@ use Rattle.tracing_appender_queue.specs.declared.queued.fate.AdmitError.TheVaria
 use Rattle.tracing_appender_queue.specs.declared.queued.queued_sink.QueuedSink.{QueuedSink}
 use Rattle.tracing_appender_queue.specs.queued.LineFates.{SettlesAll, SettlesLine}
 use Rattle.tracing_appender_queue.specs.queued.HeldLines.{Admits, is_some_line, worked}
-use Rattle.tracing_appender_queue.specs.queued.QueuedWork.{LinesLeft, WorksFrom}
+use Rattle.tracing_appender_queue.specs.queued.QueuedWork.{LinesLeft, WorksFrom, with_lost}
 use Rattle.span_tracing_skeleton.specs.declared.call.Reply.{Reply}
 use Rattle.span_tracing_skeleton.specs.declared.call.Reply.TheVariants.{Done, Refused, Worked}
 use Rattle.span_tracing_skeleton.specs.declared.queue_call.QueueCall.{QueueCall}
 use Rattle.span_tracing_skeleton.specs.declared.queue_call.QueueCall.TheVariants.{Work, Admit, Shutdown}
-use Rattle.span_tracing_skeleton.specs.declared.refusal.Refusal.TheVariants.{BadMoment, Closed, MarkSent, NoRoom, NotQueued, NothingHeld, OutOfMemory}
+use Rattle.span_tracing_skeleton.specs.declared.refusal.Refusal.TheVariants.{BadMoment, Closed, MarkSent, NoRoom, NotQueued, NothingHeld}
+use Rattle.span_tracing_skeleton.specs.declared.refusal.Refusal.TheVariants.{OutOfMemory}
 use Rattle.span_tracing_outputs.specs.OutputMachines.{PlainLine}
 use Rattle.span_tracing_outputs.specs.sinks.Runs.{TakesRun}
 use Rattle.span_tracing_outputs.specs.sinks.Takes.{TakesLine}
@@ -109,6 +111,21 @@ holds_line (Queued sink) = is_some_line sink.waiting.held
 abbrev pub missed_by : {D : Type 0} → AnySink D → ℕ
 missed_by (Direct sink) = sink.dropped
 missed_by (Queued sink) = sink.waiting.missed
+
+-- how many lines are held beside a sink's queue, where it has one
+abbrev pub held_by : {D : Type 0} → AnySink D → Option ℕ
+held_by (Direct sink) = None
+held_by (Queued sink) = Some (length sink.waiting.held)
+
+-- how many lines its queue dropped
+abbrev pub dropped_by_queue : {D : Type 0} → AnySink D → Option ℕ
+dropped_by_queue (Direct sink) = None
+dropped_by_queue (Queued sink) = Some sink.waiting.queue.dropped
+
+-- what was lost to the folder's faults, and to a closed waiting queue
+abbrev pub faults_of : {D : Type 0} → AnySink D → Faults
+faults_of (Direct sink) = sink.appender.faults
+faults_of (Queued sink) = with_lost sink.waiting.lost sink.appender.faults
 
 -- the rolling file of a sink
 abbrev pub appender_of : {D : Type 0} → AnySink D → RollingFileAppender D

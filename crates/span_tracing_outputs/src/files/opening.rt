@@ -267,9 +267,9 @@ fn rows_are_told<N: FormatFields + Drop, E: FormatEvent, F: Filter>()
 /// # Errors
 ///
 /// In this order: `BadMoment`; `NoOutput`, `TooManyFilters` where there are more than 64 outputs, `EqualKeys`; for the sinks in order
-/// `ZeroLimit`, `BadName`, `BadLinkName`, all before a folder is asked; then `FolderRefused` or `OutOfMemory` at the first sink that meets it. Out of
-/// memory may be told in place of any but `BadMoment`. What is told of one output comes with its key, and a folder's refusal with the
-/// fault. The outputs are let go: the folders of earlier sinks keep what was opened in them.
+/// `ZeroLimit`, `BadName`, `BadLinkName`, all before a folder is asked; then `FolderRefused` or `OutOfMemory` at the first sink that meets
+/// it. Out of memory may be told in place of any but `BadMoment`. What is told of one output comes with its key, and a folder's refusal
+/// with the fault. The outputs are let go: the folders of earlier sinks keep what was opened in them.
 pub fn open_stack<F: Filter, D: Folder>(
     alloc: Global,
     outputs: Vec<OutputSpec<F, D>>,
@@ -281,8 +281,8 @@ pub fn open_stack<F: Filter, D: Folder>(
     // may be answered instead.
     ensures told { is_moment moment ≡ true → Answers (outputs_refusal outputs.items) result }
     // Where each output's route is good, as `OutputSpec::new` makes it, the queues of a stack that is made have room and its files good
-    // names, and the first that hasn't is refused ahead of what a folder refuses; out of memory may be answered instead. A folder's refusal is told only where the folder
-    // told a fault.
+    // names, and the first that hasn't is refused ahead of what a folder refuses; out of memory may be answered instead. A folder's refusal
+    // is told only where the folder told a fault.
     ensures names { is_moment moment ≡ true → outputs_refusal outputs.items ≡ None → Every IsRouted outputs.items →
         NamesAnswer D.failed outputs.items result }
     ensures opened { IfOk result (λ made. OpensStack D.contents D.failed ⟦<F as Filter>⟧
@@ -310,8 +310,8 @@ pub fn open_stack_with_threads<F: Filter, D: Folder>(
     ensures moment { is_moment moment ≡ false → result ≡ Err (of_all Refusal.BadMoment) }
     ensures told { is_moment moment ≡ true → Answers (outputs_refusal outputs.items) result }
     // Where each output's route is good, as `OutputSpec::new` makes it, the queues of a stack that is made have room and its files good
-    // names, and the first that hasn't is refused ahead of what a folder refuses; out of memory may be answered instead. A folder's refusal is told only where the folder
-    // told a fault.
+    // names, and the first that hasn't is refused ahead of what a folder refuses; out of memory may be answered instead. A folder's refusal
+    // is told only where the folder told a fault.
     ensures names { is_moment moment ≡ true → outputs_refusal outputs.items ≡ None → Every IsRouted outputs.items →
         NamesAnswer D.failed outputs.items result }
     ensures opened { IfOk result (λ made. OpensStack D.contents D.failed ⟦<F as Filter>⟧

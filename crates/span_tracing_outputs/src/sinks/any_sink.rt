@@ -3,13 +3,13 @@ ghost use Rattle.std.specs.Prelude.{◌≡◌};
 ghost use Rattle.tracing_core_moments.specs.Moments.{is_moment};
 ghost use Rattle.span_tracing_skeleton.specs.declared.queue_call.QueueCall.TheVariants.{Admit, Shutdown};
 ghost use Rattle.span_tracing_outputs.specs.sinks.AnySinks.{CallsAny, CallsQueue, WorksIf, admit_reply, appender_of};
-ghost use Rattle.span_tracing_outputs.specs.sinks.AnySinks.{holds_line, missed_by, shutdown_reply};
+ghost use Rattle.span_tracing_outputs.specs.sinks.AnySinks.{dropped_by_queue, faults_of, held_by, holds_line, missed_by, shutdown_reply};
 
 use crate::LineSink;
 use crate::sinks::sink::RollingSink;
 use span_tracing_skeleton::{QueueCall, Refusal, Reply};
 use tracing_appender_queue::{AdmitError, MarkError, QueuedSink};
-use tracing_appender_rolling::{Folder, RollingFileAppender};
+use tracing_appender_rolling::{Faults, Folder, RollingFileAppender};
 use tracing_core_fields::Level;
 use tracing_core_moments::{At, Moment};
 
@@ -106,7 +106,37 @@ impl<D: Folder> AnySink<D> {
         }
     }
 
-    /// The rolling file that its lines go to.
+    /// How many lines are held beside its queue, where it has one.
+    pub fn held(&self) -> Option<usize>
+        ensures { result ≡ held_by self.now }
+    {
+        match self {
+            AnySink::Direct(_) => None,
+            AnySink::Queued(sink) => Some(sink.held()),
+        }
+    }
+
+    /// How many lines its queue dropped, where it has one. The count stops at the greatest number.
+    pub fn dropped_lines(&self) -> Option<usize>
+        ensures { result ≡ dropped_by_queue self.now }
+    {
+        match self {
+            AnySink::Direct(_) => None,
+            AnySink::Queued(sink) => Some(sink.dropped_lines()),
+        }
+    }
+
+    /// What was lost to its folder's faults. Lines that came to a closed waiting queue are lost, too, and are among the writes.
+    pub fn faults(&self) -> Faults
+        ensures { result ≡ faults_of self.now }
+    {
+        match self {
+            AnySink::Direct(sink) => sink.appender().faults(),
+            AnySink::Queued(sink) => sink.faults(),
+        }
+    }
+
+    /// The rolling file that its lines go to. Its faults leave out lines that a closed queue lost; see [`faults`](AnySink::faults).
     pub fn appender(&self) -> &RollingFileAppender<D>
         ensures { result.now ≡ appender_of self.now }
     {

@@ -30,24 +30,24 @@ pub fn routed_sinks_take_theirs<S: LineSink>()
     ensures { RoutedTakeTheirs S.takes }
 {}
 
-/// A run of lines goes to a direct sink as its rolling file takes them, and to a queued one as its queue does: each line is queued, dropped,
-/// held or lost, or finds no memory, and nothing is written.
+/// A run of lines goes to a direct sink as its rolling file takes them, and to a queued one as its queue does: each line is queued,
+/// dropped, held or lost, or finds no memory, and nothing is written.
 #[tactic(auto, using(crate::proofs::sinks::SinkKinds::kinds_stay))]
 pub fn kinds_stay<D: Folder>()
     ensures { KindsStay D.contents D.failed }
 {}
 
-/// Each sink of a stack meets just what comes to it, step by step: the lines that its output's route sends there, and the calls on its queue,
-/// whatever comes to the others. A direct sink takes its lines as its rolling file does. Of a queued one each line and each call does as the
-/// queue says.
+/// Each sink of a stack meets just what comes to it, step by step: the lines that its output's route sends there, and the calls on its
+/// queue, whatever comes to the others. A direct sink takes its lines as its rolling file does. Of a queued one each line and each call
+/// does as the queue says.
 pub fn sinks_meet_theirs<D: Folder>()
     ensures { SinksMeetTheirs D.contents D.failed }
 {}
 
-/// Which bytes stand in the files of a queued sink after lines and calls on its queue, where no line found no memory and the appender agreed
-/// with a sink before: exactly the lines that the steps of workers took, each handed over at its step's moment, stand in the files that
-/// retention left, behind what was found there and handed over before. What waits, is held and was counted then follows from what waited
-/// before.
+/// Which bytes stand in the files of a queued sink after lines and calls on its queue, where no line found no memory and the appender
+/// agreed with a sink before: exactly the lines that the steps of workers took, each handed over at its step's moment, stand in the files
+/// that retention left, behind what was found there and handed over before. What waits, is held and was counted then follows from what
+/// waited before.
 pub fn queued_lines_stand_in_files<D: Folder>()
     ensures { QueuesStand D.contents D.failed }
 {

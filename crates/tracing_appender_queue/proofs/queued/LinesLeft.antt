@@ -13,7 +13,8 @@ use Rattle.tracing_appender_rolling.specs.PrunedSinks.{PrunedSink, AgreesSink, K
 use Rattle.tracing_appender_rolling.proofs.FaultlessSwitch.{files_by_period}
 use Rattle.tracing_appender_queue.specs.declared.worker.step.Written.{Written}
 use Rattle.tracing_appender_queue.specs.worker.Batches.{lines_in}
-use Rattle.tracing_appender_queue.specs.worker.Steps.{missed_in, last_whole, flushed_if, HandsAll, HoldsFlushed, LinesSink, with_lines, with_left}
+use Rattle.tracing_appender_queue.specs.worker.Steps.{missed_in, last_whole, flushed_if, HandsAll, HoldsFlushed, LinesSink, with_lines}
+use Rattle.tracing_appender_queue.specs.worker.Steps.{with_left}
 use Rattle.tracing_appender_queue.specs.queued.LineFates.{WaitingLines, more}
 use Rattle.tracing_appender_queue.specs.queued.HeldLines.{worked}
 use Rattle.tracing_appender_queue.specs.queued.QueuedWork.{WorkTo, LinesLeft, LinesStand, handed_at}
@@ -33,13 +34,16 @@ lines_handed s (l ∷ ls) m =
     lines_handed (with_handed s h) ls m ∙ append_assoc s.handed (h ∷ []) (handed_at m ls)
 
 module _ {D : Type 0} (contents : D → Option Contents) where
-  flushed_holds : (whole : Bool) (h : Held) (a : RollingFileAppender D) → HoldsFlushed contents whole h a → Holds contents a (flushed_if whole h)
+  flushed_holds : (whole : Bool) (h : Held) (a : RollingFileAppender D) → HoldsFlushed contents whole h a →
+      Holds contents a (flushed_if whole h)
   flushed_holds true h a holds = holds
   flushed_holds false h a holds = holds
 
-  pub works_from : (names : FileNames) (m : Moment) (k : ℕ) (h : Held) (old new : WaitingLines) (taken missed : ℕ) (a : RollingFileAppender D) → new ≡ worked k missed old → taken ≡ length (lines_in k old.queue) →
+  pub works_from : (names : FileNames) (m : Moment) (k : ℕ) (h : Held) (old new : WaitingLines) (taken missed : ℕ)
+      (a : RollingFileAppender D) → new ≡ worked k missed old → taken ≡ length (lines_in k old.queue) →
       HandsAll contents names m h (lines_in k old.queue) missed a →
-      (fates : List Written) × (next : Held) × WorkTo names m k (record { waiting = old; files = h }) taken fates (record { waiting = new; files = next }) × (missed ≡ missed_in fates) × Holds contents a next
+      (fates : List Written) × (next : Held) × WorkTo names m k (record { waiting = old; files = h }) taken fates
+      (record { waiting = new; files = next }) × (missed ≡ missed_in fates) × Holds contents a next
   works_from names m k h old new taken missed a left count (fates, last, lines, misses, flushed) = (
     fates,
     flushed_if (last_whole false fates) last,
@@ -53,17 +57,22 @@ module _ {D : Type 0} (contents : D → Option Contents) where
     flushed_holds (last_whole false fates) last a flushed,
   )
 
-  stand : (q : PrunedSink) (b : RollingFileAppender D) → AgreesSink contents b q → (d : Contents) → contents b.folder ≡ Some d → LinesStand q d
+  stand : (q : PrunedSink) (b : RollingFileAppender D) → AgreesSink contents b q → (d : Contents) → contents b.folder ≡ Some d →
+      LinesStand q d
   stand q b agrees d is =
-      let all : MatchesSink d (builder_names b.builder) b.boundary b.current q = subst (λ (o : Option Contents). KeptIn o (builder_names b.builder) b.boundary b.current q) is agrees in
+      let all : MatchesSink d (builder_names b.builder) b.boundary b.current q =
+      subst (λ (o : Option Contents). KeptIn o (builder_names b.builder) b.boundary b.current q) is agrees in
       record {
         files = all.files;
-        periods = λ m is_m stands. all.files (period_name q.sink (period_in q.sink m)) ∙ files_by_period q m is_m all.opened_moment all.handed_moments stands;
+        periods = λ m is_m stands. all.files (period_name q.sink (period_in q.sink m)) ∙
+            files_by_period q m is_m all.opened_moment all.handed_moments stands;
       }
 
-  pub lines_left : (lines : List (List ℕ)) (m : Moment) (c : Contents) (p : PrunedSink) (a b : RollingFileAppender D) → LinesSink contents p lines m c a b → LinesLeft contents lines m c p a b
+  pub lines_left : (lines : List (List ℕ)) (m : Moment) (c : Contents) (p : PrunedSink) (a b : RollingFileAppender D) →
+      LinesSink contents p lines m c a b → LinesLeft contents lines m c p a b
   lines_left [] m c p a b (agrees, counts) = record {
     last = p;
+    last_is = refl;
     agrees = agrees;
     names = refl;
     opened = refl;
@@ -75,6 +84,7 @@ module _ {D : Type 0} (contents : D → Option Contents) where
       let q = pruned_at p m c in
       record {
         last = with_left q (l ∷ ls) m;
+        last_is = refl;
         agrees = agrees;
         names = lines_names q.sink (l ∷ ls) m;
         opened = lines_opened q.sink (l ∷ ls) m;

@@ -17,7 +17,8 @@ take_lossy q = either (mark_next q) (closed q) (first_taken q q.queued) q refl (
 close_lossy : (q : Queue) → (close_if q).lossy ≡ q.lossy
 close_lossy q = either (mark_next q) (after_take q) q q (take_lossy q) refl
 
-after_lossy : (rest : Queue → Queue) (q : Queue) (next : Option (List ℕ)) → ((r : Queue) → (rest r).lossy ≡ r.lossy) → (queue_after rest q next).lossy ≡ q.lossy
+after_lossy : (rest : Queue → Queue) (q : Queue) (next : Option (List ℕ)) → ((r : Queue) → (rest r).lossy ≡ r.lossy) →
+    (queue_after rest q next).lossy ≡ q.lossy
 after_lossy rest q None same = close_lossy q
 after_lossy rest q (Some line) same = same (after_take q) ∙ take_lossy q
 

@@ -1,5 +1,6 @@
 -- Calls on a sink, as calls on its queue.
-use Rattle.std.proofs.Common.{◌≡◌, ◌∙◌, refl, sym, ap, ℕ, zero, suc, Bool, true, false, if◌then◌else◌, List, [], ◌∷◌, ◌++◌, Option, Some, None, Result, Ok, Err, inl, inr, ◌⊎◌}
+use Rattle.std.proofs.Common.{◌≡◌, ◌∙◌, refl, sym, ap, ℕ, zero, suc, Bool, true, false, if◌then◌else◌, List, [], ◌∷◌, ◌++◌, Option, Some}
+use Rattle.std.proofs.Common.{None, Result, Ok, Err, inl, inr, ◌⊎◌}
 use Rattle.std.proofs.lemmas.Bool.{false≢true}
 use Rattle.tracing_appender_queue.specs.Queue.{Queue, accepts, with_line, one_dropped, mark_next, after_take}
 use Rattle.tracing_appender_queue.specs.History.{Call, Offer, Take, PutMark, queue_with, queue_after}
@@ -9,7 +10,8 @@ use Rattle.tracing_appender_queue.specs.declared.queued.fate.Fate.{Fate}
 use Rattle.tracing_appender_queue.specs.declared.queued.fate.Fate.TheVariants.{Queued, Dropped, Held, Lost, Missed}
 use Rattle.tracing_appender_queue.specs.declared.queued.fate.AdmitError.{AdmitError}
 use Rattle.tracing_appender_queue.specs.declared.queued.fate.AdmitError.TheVariants.{NothingHeld, Closed, NoRoom, OutOfMemory}
-use Rattle.tracing_appender_queue.specs.queued.LineFates.{WaitingLines, SettlesAll, ComesTo, fate_of, fate_behind, settled_as, queue_as, is_dropped}
+use Rattle.tracing_appender_queue.specs.queued.LineFates.{WaitingLines, SettlesAll, ComesTo, fate_of, fate_behind, settled_as, queue_as}
+use Rattle.tracing_appender_queue.specs.queued.LineFates.{is_dropped}
 use Rattle.tracing_appender_queue.specs.queued.HeldLines.{Admits, admits, admits_behind, moved_first, without_first}
 use Rattle.tracing_appender_queue.specs.queued.QueueCalls.{GoesBy, QueueGoesByCalls}
 
@@ -33,7 +35,8 @@ was_accepted false true c is = absurd (false≢true is)
 was_accepted false false true is = absurd (false≢true is)
 was_accepted false false false is = absurd (false≢true is)
 
-was_refused : (a l c : Bool) → is_dropped (if a then Queued else (if l then Dropped else (if c then Held else Lost))) ≡ true → (a ≡ false) × (l ≡ true)
+was_refused : (a l c : Bool) → is_dropped (if a then Queued else (if l then Dropped else (if c then Held else Lost))) ≡ true →
+    (a ≡ false) × (l ≡ true)
 was_refused true l c is = absurd (false≢true is)
 was_refused false true c is = (refl, refl)
 was_refused false false true is = absurd (false≢true is)
@@ -62,7 +65,8 @@ offered q line is = (Offer line ∷ [], sym (ap (λ (b : Bool). if b then with_l
 dropped : (q : Queue) (line : List ℕ) → accepts q ≡ false → q.lossy ≡ true → GoesBy q (one_dropped q)
 dropped q line not_taken lossy = (
   Offer line ∷ [],
-  sym (ap (λ (b : Bool). if b then with_line q line else (if q.lossy then one_dropped q else q)) not_taken ∙ ap (λ (b : Bool). if b then one_dropped q else q) lossy),
+  sym (ap (λ (b : Bool). if b then with_line q line else (if q.lossy then one_dropped q else q)) not_taken ∙
+      ap (λ (b : Bool). if b then one_dropped q else q) lossy),
 )
 
 settle_one : (w : WaitingLines) (line : List ℕ) (fate : Fate) → ComesTo (fate_of w) fate → GoesBy w.queue (queue_as fate line w.queue)
@@ -83,7 +87,8 @@ closes : (b : Bool) (q : Queue) → GoesBy q (if b then after_take q else q)
 closes true q = (Take ∷ [], refl)
 closes false q = ([], refl)
 
-next_goes : (rest : Queue → Queue) (q : Queue) (next : Option (List ℕ)) → ((r : Queue) → GoesBy r (rest r)) → GoesBy q (batches.queue_after rest q next)
+next_goes : (rest : Queue → Queue) (q : Queue) (next : Option (List ℕ)) → ((r : Queue) → GoesBy r (rest r)) →
+    GoesBy q (batches.queue_after rest q next)
 next_goes rest q None goes = closes (mark_next q) q
 next_goes rest q (Some line) goes = composed q (after_take q) (rest (after_take q)) (Take ∷ [], refl) (goes (after_take q))
 
@@ -112,13 +117,15 @@ along : (q new left : Queue) → new ≡ left → GoesBy q left → GoesBy q new
 along q new left is (calls, so) = (calls, is ∙ so)
 
 admit_goes : (w new : WaitingLines) (result : Result (Unit {0}) AdmitError) → Admits w result new → GoesBy w.queue new.queue
-admit_goes w new (Ok done) a = along w.queue new.queue (moved_first w w.held).queue (ap (λ (x : WaitingLines). x.queue) a.left) (moved w.held w (fine a.answered))
+admit_goes w new (Ok done) a = along w.queue new.queue (moved_first w w.held).queue (ap (λ (x : WaitingLines). x.queue) a.left)
+    (moved w.held w (fine a.answered))
   where
     fine : ((Ok done ≡ admits w) ⊎ ((Ok done ≡ Err OutOfMemory) × (admits w ≡ Ok tt))) → is_done (admits w) ≡ true
     fine (inl same) = sym (ap is_done same)
     fine (inr (no_memory, due)) = absurd (false≢true (sym (ap is_done no_memory)))
 admit_goes w new (Err NothingHeld) a = ([], ap (λ (x : WaitingLines). x.queue) a.left)
-admit_goes w new (Err Closed) a = along w.queue new.queue (without_first w w.held).queue (ap (λ (x : WaitingLines). x.queue) a.left) (given_up w.held w)
+admit_goes w new (Err Closed) a = along w.queue new.queue (without_first w w.held).queue (ap (λ (x : WaitingLines). x.queue) a.left)
+    (given_up w.held w)
 admit_goes w new (Err NoRoom) a = ([], ap (λ (x : WaitingLines). x.queue) a.left)
 admit_goes w new (Err OutOfMemory) a = ([], ap (λ (x : WaitingLines). x.queue) a.left)
 

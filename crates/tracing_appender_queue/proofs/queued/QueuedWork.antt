@@ -22,19 +22,29 @@ none_missed : (fates : List Written) → AllWhole fates → missed_in fates ≡ 
 none_missed [] whole = refl
 none_missed (f ∷ fs) (is, whole) = ap (λ b. cond b (suc (missed_in fs)) (missed_in fs)) (ap is_missed is) ∙ none_missed fs whole
 
-same_files : (a b : QueuedFiles) → a.waiting.queue ≡ b.waiting.queue → a.waiting.held ≡ b.waiting.held → a.waiting.lost ≡ b.waiting.lost → a.waiting.missed ≡ b.waiting.missed → a.files ≡ b.files → a ≡ b
-same_files a b queues helds losts misses files = λ i. record { waiting = record { queue = queues i; held = helds i; lost = losts i; missed = misses i }; files = files i }
+same_files : (a b : QueuedFiles) → a.waiting.queue ≡ b.waiting.queue → a.waiting.held ≡ b.waiting.held → a.waiting.lost ≡ b.waiting.lost →
+    a.waiting.missed ≡ b.waiting.missed → a.files ≡ b.files → a ≡ b
+same_files a b queues helds losts misses files = λ i. record {
+  waiting =
+      record { queue = queues i; held = helds i; lost = losts i; missed = misses i };
+  files = files i;
+}
 
 module _ (names : FileNames) (m : Moment) where
-  all_held : (ks : List ℕ) (s last : QueuedFiles) (taken : ℕ) (fates : List Written) → WorksTo names m ks s taken fates last → last.waiting.held ≡ s.waiting.held
+  all_held : (ks : List ℕ) (s last : QueuedFiles) (taken : ℕ) (fates : List Written) → WorksTo names m ks s taken fates last →
+      last.waiting.held ≡ s.waiting.held
   all_held [] s last taken fates (none, empty, same) = ap (λ (x : QueuedFiles). x.waiting.held) same
-  all_held (k ∷ ks) s last taken fates (middle, first, rest, one, later, step, behind, count, are) = all_held ks middle last rest later behind ∙ step.held
+  all_held (k ∷ ks) s last taken fates (middle, first, rest, one, later, step, behind, count, are) =
+      all_held ks middle last rest later behind ∙ step.held
 
-  all_lost : (ks : List ℕ) (s last : QueuedFiles) (taken : ℕ) (fates : List Written) → WorksTo names m ks s taken fates last → last.waiting.lost ≡ s.waiting.lost
+  all_lost : (ks : List ℕ) (s last : QueuedFiles) (taken : ℕ) (fates : List Written) → WorksTo names m ks s taken fates last →
+      last.waiting.lost ≡ s.waiting.lost
   all_lost [] s last taken fates (none, empty, same) = ap (λ (x : QueuedFiles). x.waiting.lost) same
-  all_lost (k ∷ ks) s last taken fates (middle, first, rest, one, later, step, behind, count, are) = all_lost ks middle last rest later behind ∙ step.lost
+  all_lost (k ∷ ks) s last taken fates (middle, first, rest, one, later, step, behind, count, are) =
+      all_lost ks middle last rest later behind ∙ step.lost
 
-  all_missed : (k : ℕ) (ks : List ℕ) (s last : QueuedFiles) (taken : ℕ) (fates : List Written) → WorksTo names m (k ∷ ks) s taken fates last → last.waiting.missed ≡ more s.waiting.missed (missed_in fates)
+  all_missed : (k : ℕ) (ks : List ℕ) (s last : QueuedFiles) (taken : ℕ) (fates : List Written) →
+      WorksTo names m (k ∷ ks) s taken fates last → last.waiting.missed ≡ more s.waiting.missed (missed_in fates)
   all_missed k [] s last taken fates (middle, first, rest, one, later, step, (none, empty, same), count, are) =
       let all : missed_in one ≡ missed_in fates = omega (arith, missed_append one later, ap missed_in empty, ap missed_in are) in
       ap (λ (x : QueuedFiles). x.waiting.missed) same ∙ step.missed ∙ ap (more s.waiting.missed) all
@@ -44,14 +54,16 @@ module _ (names : FileNames) (m : Moment) where
       ∙ more_more s.waiting.missed (missed_in one) (missed_in later)
       ∙ ap (more s.waiting.missed) (sym (missed_append one later) ∙ sym (ap missed_in are))
 
-  as_steps : (ks : List ℕ) (s last : QueuedFiles) (taken : ℕ) (fates : List Written) → WorksTo names m ks s taken fates last → StepsTo names m ks (worker_of s) taken fates (worker_of last)
+  as_steps : (ks : List ℕ) (s last : QueuedFiles) (taken : ℕ) (fates : List Written) → WorksTo names m ks s taken fates last →
+      StepsTo names m ks (worker_of s) taken fates (worker_of last)
   as_steps [] s last taken fates (none, empty, same) = (none, empty, ap worker_of same)
   as_steps (k ∷ ks) s last taken fates (middle, first, rest, one, later, step, behind, count, are) =
       (worker_of middle, first, rest, one, later, step.step, as_steps ks middle last rest later behind, count, are)
 
 pub work_cut : WorkMayBeCut
 work_cut names m k ks s last taken fates sound whole works =
-    let cuts = steps_cut names m k ks (worker_of s) (worker_of last) taken fates sound whole (as_steps names m (k ∷ ks) s last taken fates works) in
+    let cuts = steps_cut names m k ks (worker_of s) (worker_of last) taken fates sound whole
+    (as_steps names m (k ∷ ks) s last taken fates works) in
     let helds = all_held names m (k ∷ ks) s last taken fates works in
     let losts = all_lost names m (k ∷ ks) s last taken fates works in
     let misses = all_missed names m k ks s last taken fates works in (
@@ -59,7 +71,8 @@ work_cut names m k ks s last taken fates sound whole works =
       λ other number others fed work.
           let ends = cuts.1 (worker_of other) number others fed work.step in (
             same_files other last (ap (λ (x : Worker). x.queue) ends.0) (work.held ∙ sym helds) (work.lost ∙ sym losts)
-                (work.missed ∙ ap (more s.waiting.missed) (fed ∙ sym (none_missed fates whole)) ∙ sym misses) (ap (λ (x : Worker). x.sink) ends.0),
+                (work.missed ∙ ap (more s.waiting.missed) (fed ∙ sym (none_missed fates whole)) ∙ sym misses)
+                (ap (λ (x : Worker). x.sink) ends.0),
             ends.1,
           ),
     )
@@ -79,8 +92,10 @@ work_swapped names one other m n k l sinks middle last a b fates others differ f
   with_sink sinks other (last other),
   record {
     work =
-        subst (λ (x : QueuedFiles). WorkTo (names other) n l x b others (with_sink sinks other (last other) other)) (first.others_stay other (λ e. differ (sym e)))
-        (subst (λ (x : QueuedFiles). WorkTo (names other) n l (middle other) b others x) (sym (placed sinks other (last other))) second.work);
+        subst (λ (x : QueuedFiles). WorkTo (names other) n l x b others (with_sink sinks other (last other) other))
+        (first.others_stay other (λ e. differ (sym e)))
+        (subst (λ (x : QueuedFiles). WorkTo (names other) n l (middle other) b others x) (sym (placed sinks other (last other)))
+        second.work);
     others_stay = λ j differs. elsewhere sinks other j (last other) differs;
   },
   record {
@@ -94,4 +109,5 @@ work_swapped names one other m n k l sinks middle last a b fates others differ f
     by_case : (j : ℕ) → j ≢ one → (is : Bool) → (j == other) ≡ is → last j ≡ cond (j == other) (last other) (sinks j)
     by_case j differs true is = ap last (eqb-true j other is) ∙ sym (ap (λ c. cond c (last other) (sinks j)) is)
     by_case j differs false is =
-        second.others_stay j (λ same. false≢true (sym is ∙ eq-eqb j other same)) ∙ first.others_stay j differs ∙ sym (ap (λ c. cond c (last other) (sinks j)) is)
+        second.others_stay j (λ same. false≢true (sym is ∙ eq-eqb j other same)) ∙ first.others_stay j differs ∙
+        sym (ap (λ c. cond c (last other) (sinks j)) is)

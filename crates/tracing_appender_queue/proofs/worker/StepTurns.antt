@@ -169,7 +169,8 @@ module _ {D : Type 0} (contents : D → Option Contents) (names : FileNames) (m 
       let open_on = subst (λ due. OpensAfter due b.current next.current at.0.open_files (contents next.folder)) early h.opens in
       let stay = λ (fs : List ℕ) (there : IsOpenIn (contents b.folder) fs). let same : at.0.open_files ≡ fs =
       subst (λ (o : Option Contents). IsOpenIn o fs) at.1 there in subst (IsOpenIn (contents next.folder)) same open_on.0 in
-      let kept = subst (λ due. AgreesSink contents next (with_line (without (removed_if due q.sink.names at.0) q) line m)) early h.agrees in (
+      let kept = subst (λ due. AgreesSink contents next (with_line (without (removed_if due q.sink.names at.0) q) line m)) early h.agrees
+      in (
         subst (λ (s : PlainSink). AgreesSink contents next (record (pruned_at p m c) { sink = s }))
             (sym (lines_added (pruned_at p m c).sink (l ∷ ls) line m)) kept,
         h.counts ∙

@@ -5,9 +5,11 @@ use Rattle.tracing_appender_queue.specs.queued.LineFates.{WaitingLines, SettlesA
 
 -- two lists make a longer one, and each cut of a longer one makes two
 pub record SettlesCompose : Type 0 where
-  pub append : (w mid new : WaitingLines) (one two : List (List ℕ)) (fates later : List Fate) → SettlesAll w one fates mid → SettlesAll mid two later new → SettlesAll w (one ++ two) (fates ++ later) new
+  pub append : (w mid new : WaitingLines) (one two : List (List ℕ)) (fates later : List Fate) → SettlesAll w one fates mid →
+      SettlesAll mid two later new → SettlesAll w (one ++ two) (fates ++ later) new
   pub split : (w new : WaitingLines) (one two : List (List ℕ)) (fates : List Fate) → SettlesAll w (one ++ two) fates new →
-      (first later : List Fate) × (mid : WaitingLines) × (fates ≡ first ++ later) × SettlesAll w one first mid × SettlesAll mid two later new
+      (first later : List Fate) × (mid : WaitingLines) × (fates ≡ first ++ later) × SettlesAll w one first mid ×
+      SettlesAll mid two later new
 
 -- what a list of lines left of the counts
 pub record DropsExact (w : WaitingLines) (fates : List Fate) (new : WaitingLines) : Type 0 where

@@ -42,7 +42,8 @@ is_dropped Held = false
 is_dropped Lost = false
 is_dropped Missed = false
 
--- The queue takes it in exactly where it accepts. Else a lossy one drops it; a waiting one holds it while it is accepting, and loses it once it is closed.
+-- The queue takes it in exactly where it accepts. Else a lossy one drops it; a waiting one holds it while it is accepting, and loses it
+-- once it is closed.
 abbrev pub fate_at : Queue → Fate
 fate_at q = if accepts q then Queued else (if q.lossy then Dropped else (if q.accepting then Held else Lost))
 
@@ -84,7 +85,13 @@ held_as Lost line held = held
 held_as Missed line held = held
 
 abbrev pub settled_as : Fate → List ℕ → WaitingLines → WaitingLines
-settled_as fate line w = record { queue = queue_as fate line w.queue; held = held_as fate line w.held; lost = more_if (is_lost fate) w.lost; missed = more_if (is_missed fate) w.missed }
+settled_as fate line w = record {
+  queue = queue_as fate line w.queue;
+  held = held_as fate line w.held;
+  lost =
+      more_if (is_lost fate) w.lost;
+  missed = more_if (is_missed fate) w.missed;
+}
 
 -- A line came to the queue, and this became of it.
 pub record SettlesLine (w : WaitingLines) (line : List ℕ) (fate : Fate) (new : WaitingLines) : Type 0 where

@@ -11,7 +11,8 @@ abbrev pub GoesBy : Queue → Queue → Type 0
 GoesBy old new = (calls : List Call) × (new ≡ queue_after old calls)
 
 pub record QueueGoesByCalls : Type 0 where
-  pub settling : (w new : WaitingLines) (lines : List (List ℕ)) (fates : List Fate) → SettlesAll w lines fates new → GoesBy w.queue new.queue
+  pub settling : (w new : WaitingLines) (lines : List (List ℕ)) (fates : List Fate) → SettlesAll w lines fates new →
+      GoesBy w.queue new.queue
   pub working : (w : WaitingLines) (k missed : ℕ) → GoesBy w.queue (worked k missed w).queue
   pub admitting : (w new : WaitingLines) (result : Result (Unit {0}) AdmitError) → Admits w result new → GoesBy w.queue new.queue
   pub marking : (q : Queue) → GoesBy q (after_mark q)

@@ -1,6 +1,7 @@
 //! A queue, with the lines that are held beside it.
 
-ghost use Rattle.std.specs.Prelude.{◌≡◌, ◌≤◌, ◌<◌, ◌++◌, ◌∷◌, ℕ, Some, true, false, length, map, List, [], IfOk, OnErr, OnOk, IsErrOf, ◌↔◌, if◌then◌else◌};
+ghost use Rattle.std.specs.Prelude.{◌≡◌, ◌≤◌, ◌<◌, ◌++◌, ◌∷◌, ℕ, Some, true, false, length, map, List, [], IfOk, OnErr, OnOk, IsErrOf, ◌↔◌};
+ghost use Rattle.std.specs.Prelude.{if◌then◌else◌};
 ghost use Rattle.tracing_appender_rolling.specs.folders.Contents.{Contents};
 ghost use Rattle.tracing_core_moments.specs.Moments.{is_moment};
 ghost use Rattle.tracing_appender_rolling.specs.Builders.{builder_names};
@@ -11,7 +12,8 @@ ghost use Rattle.tracing_appender_queue.specs.Queue.{new_queue, accepted, after_
 ghost use Rattle.tracing_appender_queue.specs.worker.Batches.{lines_in};
 ghost use Rattle.tracing_appender_queue.specs.worker.Steps.{HandsAll, LinesSink, LinesAnywhere};
 ghost use Rattle.tracing_appender_queue.specs.queued.WaitingView.{bytes_of};
-ghost use Rattle.tracing_appender_queue.specs.queued.LineFates.{ComesTo, SettlesLine, SettlesAll, fate_behind, queue_as, held_as, is_lost, is_missed, lost_in, missed_in};
+ghost use Rattle.tracing_appender_queue.specs.queued.LineFates.{ComesTo, SettlesLine, SettlesAll, fate_behind, queue_as, held_as, is_lost};
+ghost use Rattle.tracing_appender_queue.specs.queued.LineFates.{is_missed, lost_in, missed_in};
 ghost use Rattle.tracing_appender_queue.specs.queued.HeldLines.{Admits, is_some_line, nothing_at, worked};
 
 use crate::queued::fate::{AdmitError, Fate, Settlement, more_if, one_if};

@@ -1,7 +1,7 @@
 //! Lending subscribers.
 ghost use Rattle.std.specs.Borrow.{sem};
 ghost use Rattle.std.specs.Option.{option_map};
-ghost use Rattle.std.specs.Prelude.{◌≡◌, slice_get};
+ghost use Rattle.std.specs.Prelude.{◌≡◌};
 ghost use Rattle.tracing_core.specs.SubscriberChange.{AnswersAlike, ChangeGives, ChangesBy};
 ghost use Rattle.tracing_core.specs.Handles.{hold_refusal};
 ghost use Rattle.tracing_core.specs.CachePreservation.{PreservesCaches, PreservesUnlentCaches};
@@ -27,15 +27,11 @@ impl<S, C> Hub<S, C> {
         }
     }
 
-    /// The subscriber that was added before all others that live.
-    pub fn first_subscriber(&self) -> Option<&S>
-        ensures { option_map (λ subscriber. subscriber.now) result
-            ≡ option_map (λ kept. kept.subscriber) (slice_get self.now.subscribers 0) }
+    /// The subscribers that some handle leads to, in the order in which they were added.
+    pub fn subscribers(&self) -> &[RegisteredSubscriber<S>]
+        ensures { result.now ≡ self.now.subscribers }
     {
-        match self.subscribers.first() {
-            None => None,
-            Some(registered) => Some(&registered.subscriber),
-        }
+        self.subscribers.as_slice()
     }
 
     // Lends the subscriber, and marks it.

@@ -4,9 +4,9 @@ ghost use Rattle.std.specs.Prelude.{◌≡◌, ◌<◌, slice_get, length, IfSom
 use std::marker::Model;
 use tracing_core_fields::{Interest, LevelFilter};
 
-// A subscriber that some handle leads to. A contract sees what is kept of it.
+/// A subscriber that some handle leads to. A contract sees what is kept of it.
 #[derive(Drop)]
-pub(crate) struct RegisteredSubscriber<S> {
+pub struct RegisteredSubscriber<S> {
     pub(crate) serial: u64,
     pub(crate) handles: u64,
     // whether it was lent for writing since it was last asked, or was never asked
@@ -33,6 +33,15 @@ impl<S> Model for RegisteredSubscriber<S> {
       hint = e.hint;
       subscriber = e.subscriber;
     } };
+}
+
+impl<S> RegisteredSubscriber<S> {
+    /// The subscriber itself.
+    pub fn subscriber(&self) -> &S
+        ensures { result.now ≡ self.now.subscriber }
+    {
+        &self.subscriber
+    }
 }
 
 // A callsite. A contract sees what is kept of it.

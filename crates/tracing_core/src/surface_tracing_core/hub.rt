@@ -50,7 +50,7 @@ fn surface_hub_handles(rt: HostRuntime) -> Result<(), Fail> {
     let copy = hub.clone(&first)?;
     let weak = hub.downgrade(&first);
     let third = hub.upgrade(&weak)?.ok_or("it lives")?;
-    assert!(rt; hub.subscriber(&weak).is_some() && hub.first_subscriber().is_some());
+    assert!(rt; hub.subscriber(&weak).is_some() && hub.subscribers().len() == 1);
     assert!(rt; hub.subscriber_mut(&weak).is_some());
     let guard = hub.set_default(lane, &first)?;
     let Err(WrongLane(guard)) = hub.reset(lane + 1, guard) else {

@@ -5,7 +5,7 @@ use Rattle.span_tracing_outputs.specs.sinks.SinkCalls.{sinks_in}
 use Rattle.span_tracing_laws.specs.runs.StepFollows.{registry_of}
 use Rattle.span_tracing_skeleton.specs.PlainData.{GlobalStep}
 use Rattle.span_tracing_steps.specs.States.{new_state}
-use Rattle.span_tracing.proofs.DefaultStack.{opened, opened_count, reaches_first, same_stack}
+use Rattle.span_tracing.proofs.DefaultStack.{opened, opened_count, opened_sinks, reaches_first, same_stack}
 use Rattle.span_tracing.proofs.opening.open_trace.Goals as goal
 
 pub unreachable-requires : goal.unreachable-requires
@@ -74,6 +74,14 @@ returns-clause-outputs g c =
     c.add_stack.new.self c.act.result c.act.new.self c.new-trace.ensures c.in-Ok.ensures.ok
     c.in-Ok-add_stack.ensures.gives c.act.ensures).outputs
     ∙ ap (λ k. k ∷ []) (opened_count _ _ _ _ _ _ c.args.outputs.items c.in_ok-stack.stack c.in_ok-stack.ensures.opened)
+
+pub returns-clause-sinks : goal.returns-clause-sinks
+returns-clause-sinks g c =
+    (opened _ outputs_in sinks_in registry_of stack_set
+    (record { name = None; number = 1 }) c.in_ok-stack.stack c.in-Ok-add_stack.handle c.new-trace.result c.thread.new.self
+    c.add_stack.new.self c.act.result c.act.new.self c.new-trace.ensures c.in-Ok.ensures.ok
+    c.in-Ok-add_stack.ensures.gives c.act.ensures).sinks
+    ∙ ap (λ k. k ∷ []) (opened_sinks _ _ _ _ _ _ c.args.outputs.items c.in_ok-stack.stack c.in_ok-stack.ensures.opened)
 
 pub returns-clause-counted : goal.returns-clause-counted
 returns-clause-counted g c =

@@ -112,7 +112,7 @@ fn a_lanes_default_and_a_guard_hold_a_stack(rt: HostRuntime) -> Result<(), Fail>
     let lines = "fake time  WARN app: a\nfake time  WARN outer: app: b\n";
     wrote(&rt, &trace, 1, lines)?;
     assert!(rt; trace.stack(1).is_some());
-    assert_eq!(rt; (trace.stack_count(), trace.lost(1, 0)), (2, Some(0)));
+    assert_eq!(rt; (trace.stack_count(), trace.lost(1)), (2, Some(0)));
     Ok(())
 }
 

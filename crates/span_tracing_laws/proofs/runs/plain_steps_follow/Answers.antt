@@ -9,5 +9,6 @@ returns g c = record {
   each = step_follows g.N.FormatFields g.E.FormatEvent.line_of g.F.Filter g.S.LineSink.takes _
       (ghosts g.row.N g.row.E g.row.F g.row.S g.N.FormatFields g.N.FormatFields-dict g.E.FormatEvent g.E.FormatEvent-dict g.F.Filter
       g.F.Filter-dict g.S.LineSink g.S.LineSink-dict g.N.Destruct-dict g.E.Destruct-dict g.F.Destruct-dict g.S.Destruct-dict)
-      (λ (x : TraceStackValue _ _ _ _) (call : Call) (r : ReplyTo call) (y : TraceStackValue _ _ _ _). λ moved. moved) c.trace_follows.ensures;
+      (λ (x : TraceStackValue _ _ _ _) (call : Call) (r : ReplyTo call) (y : TraceStackValue _ _ _ _). λ moved. moved)
+      c.trace_follows.ensures;
 }

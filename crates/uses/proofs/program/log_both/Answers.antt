@@ -9,12 +9,15 @@ pub returns-clause-gives : goal.returns-clause-gives
 returns-clause-gives c = (
   c.event-reply.new.self,
   gives_named _ _ _ _ _ _ _ _ _ _ _ _
-      (ap (λ (vs : List (ℕ × PlainValue)). OfTrace (EventStep (record { lane = 0; moment = c.args.moment; callsite = c.args.callsite.0; parent = Contextual; values = vs }))) c.message.ensures)
+      (ap (λ (vs : List (ℕ × PlainValue)). OfTrace (EventStep (record
+      { lane = 0; moment = c.args.moment; callsite = c.args.callsite.0; parent = Contextual; values = vs }))) c.message.ensures)
       c.event-reply.ensures,
   (
     c.event-last.new.self,
     gives_named _ _ _ _ _ _ _ _ _ _ _ _
-        (ap (λ (vs : List (ℕ × PlainValue)). OfTrace (EventStep (record { lane = 0; moment = c.args.moment; callsite = c.args.callsite.0; parent = Contextual; values = vs }))) c.message-2.ensures)
+        (ap (λ (vs : List (ℕ × PlainValue)). OfTrace (EventStep
+        (record { lane = 0; moment = c.args.moment; callsite = c.args.callsite.0; parent = Contextual; values = vs })))
+        c.message-2.ensures)
         c.event-last.ensures,
     refl,
   ),
@@ -25,12 +28,16 @@ returns-clause-run c =
     c.calls_make_runs.ensures.files _ _ _ _ _ (
       c.event-reply.new.self,
       gives_named _ _ _ _ _ _ _ _ _ _ _ _
-          (ap (λ (vs : List (ℕ × PlainValue)). OfTrace (EventStep (record { lane = 0; moment = c.args.moment; callsite = c.args.callsite.0; parent = Contextual; values = vs }))) c.message.ensures)
+          (ap (λ (vs : List (ℕ × PlainValue)). OfTrace (EventStep
+          (record { lane = 0; moment = c.args.moment; callsite = c.args.callsite.0; parent = Contextual; values = vs })))
+          c.message.ensures)
           c.event-reply.ensures,
       (
         c.event-last.new.self,
         gives_named _ _ _ _ _ _ _ _ _ _ _ _
-            (ap (λ (vs : List (ℕ × PlainValue)). OfTrace (EventStep (record { lane = 0; moment = c.args.moment; callsite = c.args.callsite.0; parent = Contextual; values = vs }))) c.message-2.ensures)
+            (ap (λ (vs : List (ℕ × PlainValue)). OfTrace (EventStep
+            (record { lane = 0; moment = c.args.moment; callsite = c.args.callsite.0; parent = Contextual; values = vs })))
+            c.message-2.ensures)
             c.event-last.ensures,
         refl,
       ),

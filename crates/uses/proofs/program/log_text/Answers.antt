@@ -7,5 +7,6 @@ use Rattle.uses.proofs.program.log_text.Goals as goal
 
 pub returns : goal.returns
 returns c = gives_named _ _ _ _ _ _ _ _ _ _ _ _
-    (ap (λ (vs : List (ℕ × PlainValue)). OfTrace (EventStep (record { lane = 0; moment = c.args.moment; callsite = c.args.callsite.0; parent = Contextual; values = vs }))) c.message.ensures)
+    (ap (λ (vs : List (ℕ × PlainValue)). OfTrace (EventStep (record
+    { lane = 0; moment = c.args.moment; callsite = c.args.callsite.0; parent = Contextual; values = vs }))) c.message.ensures)
     c.event.ensures

@@ -16,14 +16,16 @@ returns-in-Done-clause-ready c =
 
 pub returns-in-Done-clause-reached : goal.returns-in-Done-clause-reached
 returns-in-Done-clause-reached c =
-    let o = opened _ outputs_in sinks_in registry_of stack_set (record { name = None; number = 1 }) c.args.stack c.in-Ok-add_stack.handle c.new-trace.result c.thread.new.self
+    let o = opened _ outputs_in sinks_in registry_of stack_set (record { name = None; number = 1 }) c.args.stack c.in-Ok-add_stack.handle
+    c.new-trace.result c.thread.new.self
     c.add_stack.new.self c.set_global_default.result c.set_global_default.new.self c.new-trace.ensures c.in-Ok.ensures.ok
     c.in-Ok-add_stack.ensures.gives (gives_done _ _ _ _ _ _ _ _ _ _ _ c.in-Done.is c.set_global_default.ensures) in
     (reaches_first (record { name = None; number = 1 }) o.count c.set_global_default.new.self o.stack o.hint o.greatest o.set).reached
 
 pub returns-in-Done-clause-lane : goal.returns-in-Done-clause-lane
 returns-in-Done-clause-lane c =
-    let o = opened _ outputs_in sinks_in registry_of stack_set (record { name = None; number = 1 }) c.args.stack c.in-Ok-add_stack.handle c.new-trace.result c.thread.new.self
+    let o = opened _ outputs_in sinks_in registry_of stack_set (record { name = None; number = 1 }) c.args.stack c.in-Ok-add_stack.handle
+    c.new-trace.result c.thread.new.self
     c.add_stack.new.self c.set_global_default.result c.set_global_default.new.self c.new-trace.ensures c.in-Ok.ensures.ok
     c.in-Ok-add_stack.ensures.gives (gives_done _ _ _ _ _ _ _ _ _ _ _ c.in-Done.is c.set_global_default.ensures) in
     ap (λ v. length v.threads) o.set

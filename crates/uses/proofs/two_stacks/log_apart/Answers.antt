@@ -15,7 +15,9 @@ returns-clause-run c = (
     (
       c.event-reply.new.self,
       gives_named _ _ _ _ _ _ _ _ _ _ _ _
-          (ap (λ (vs : List (ℕ × PlainValue)). OfTrace (EventStep (record { lane = c.args.lane; moment = c.args.moment; callsite = c.args.callsite.0; parent = Contextual; values = vs }))) c.message.ensures)
+          (ap (λ (vs : List (ℕ × PlainValue)). OfTrace (EventStep
+          (record { lane = c.args.lane; moment = c.args.moment; callsite = c.args.callsite.0; parent = Contextual; values = vs })))
+          c.message.ensures)
           c.event-reply.ensures,
       (c.reset_default-back.new.self, c.reset_default-back.ensures.gives, refl),
     ),

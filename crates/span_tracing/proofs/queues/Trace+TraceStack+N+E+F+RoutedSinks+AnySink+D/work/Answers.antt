@@ -7,6 +7,7 @@ pub returns : goal.returns
 returns g c = step_carried _ _ _ _ _ _ _ _ _ _ _ _ c.self.view_is
     (record {
       gives = c.drive.ensures.gives;
-      follows = λ ready. c.steps_follow.ensures.each _ (OfQueue (record { sink = c.args.sink; call = Work c.args.lines c.args.moment })) c.drive.result _ ready
+      follows = λ ready. c.steps_follow.ensures.each _ (OfQueue (record { sink = c.args.sink; call = Work c.args.lines c.args.moment }))
+          c.drive.result _ ready
           c.drive.ensures.gives;
     })

@@ -14,7 +14,11 @@ returns-then-is_busy g c =
     sym (c.is_busy.ensures ∙ ap (holds_in (holds outputs_hold)) c.self.view_is) ∙ c.if-is_busy.true in
     record {
       gives = inl (held, refl, refl);
-      follows = λ ready. c.steps_follow.ensures.each _ (OfTrace (EnterStep (record { lane = c.args.lane; moment = c.args.moment; span = c.args.span })))
+      follows = λ ready. c.steps_follow.ensures.each _ (OfTrace (EnterStep (record {
+        lane = c.args.lane;
+        moment = c.args.moment;
+        span = c.args.span;
+      })))
           (Refused Busy) _ ready (inl (held, refl, refl));
     }
 
@@ -22,7 +26,11 @@ pub returns : goal.returns
 returns g c = step_carried _ _ _ _ _ _ _ _ _ _ _ _ c.self.view_is
     (record {
       gives = inr (sym c.is_busy.ensures ∙ c.if-is_busy.false, c.enter.ensures.gives);
-      follows = λ ready. c.steps_follow.ensures.each _ (OfTrace (EnterStep (record { lane = c.args.lane; moment = c.args.moment; span = c.args.span })))
+      follows = λ ready. c.steps_follow.ensures.each _ (OfTrace (EnterStep (record {
+        lane = c.args.lane;
+        moment = c.args.moment;
+        span = c.args.span;
+      })))
           c.enter.result _ ready
           (inr (sym c.is_busy.ensures ∙ c.if-is_busy.false, c.enter.ensures.gives));
     })

@@ -15,7 +15,13 @@ returns-then-is_busy g c =
     sym (c.is_busy.ensures ∙ ap (holds_in (holds outputs_hold)) c.self.view_is) ∙ c.if-is_busy.true in
     record {
       gives = inl (held, refl, refl);
-      follows = λ ready. c.steps_follow.ensures.each _ (OfTrace (EventStep (record { lane = c.args.lane; moment = c.args.moment; callsite = c.args.callsite.0; parent = c.args.parent; values = lent_entries c.args.values.now })))
+      follows = λ ready. c.steps_follow.ensures.each _ (OfTrace (EventStep (record {
+        lane = c.args.lane;
+        moment = c.args.moment;
+        callsite = c.args.callsite.0;
+        parent = c.args.parent;
+        values = lent_entries c.args.values.now;
+      })))
           (Refused Busy) _ ready (inl (held, refl, refl));
     }
 
@@ -23,7 +29,13 @@ pub returns : goal.returns
 returns g c = step_carried _ _ _ _ _ _ _ _ _ _ _ _ c.self.view_is
     (record {
       gives = inr (sym c.is_busy.ensures ∙ c.if-is_busy.false, c.event.ensures.gives);
-      follows = λ ready. c.steps_follow.ensures.each _ (OfTrace (EventStep (record { lane = c.args.lane; moment = c.args.moment; callsite = c.args.callsite.0; parent = c.args.parent; values = lent_entries c.args.values.now })))
+      follows = λ ready. c.steps_follow.ensures.each _ (OfTrace (EventStep (record {
+        lane = c.args.lane;
+        moment = c.args.moment;
+        callsite = c.args.callsite.0;
+        parent = c.args.parent;
+        values = lent_entries c.args.values.now;
+      })))
           c.event.result _ ready
           (inr (sym c.is_busy.ensures ∙ c.if-is_busy.false, c.event.ensures.gives));
     })

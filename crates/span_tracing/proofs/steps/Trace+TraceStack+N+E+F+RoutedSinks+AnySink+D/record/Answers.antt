@@ -15,7 +15,12 @@ returns-then-is_busy g c =
     sym (c.is_busy.ensures ∙ ap (holds_in (holds outputs_hold)) c.self.view_is) ∙ c.if-is_busy.true in
     record {
       gives = inl (held, refl, refl);
-      follows = λ ready. c.steps_follow.ensures.each _ (OfTrace (RecordStep (record { lane = c.args.lane; moment = c.args.moment; span = c.args.span; values = lent_entries c.args.values.now })))
+      follows = λ ready. c.steps_follow.ensures.each _ (OfTrace (RecordStep (record {
+        lane = c.args.lane;
+        moment = c.args.moment;
+        span = c.args.span;
+        values = lent_entries c.args.values.now;
+      })))
           (Refused Busy) _ ready (inl (held, refl, refl));
     }
 
@@ -23,7 +28,12 @@ pub returns : goal.returns
 returns g c = step_carried _ _ _ _ _ _ _ _ _ _ _ _ c.self.view_is
     (record {
       gives = inr (sym c.is_busy.ensures ∙ c.if-is_busy.false, c.record.ensures.gives);
-      follows = λ ready. c.steps_follow.ensures.each _ (OfTrace (RecordStep (record { lane = c.args.lane; moment = c.args.moment; span = c.args.span; values = lent_entries c.args.values.now })))
+      follows = λ ready. c.steps_follow.ensures.each _ (OfTrace (RecordStep (record {
+        lane = c.args.lane;
+        moment = c.args.moment;
+        span = c.args.span;
+        values = lent_entries c.args.values.now;
+      })))
           c.record.result _ ready
           (inr (sym c.is_busy.ensures ∙ c.if-is_busy.false, c.record.ensures.gives));
     })

@@ -1,33 +1,11 @@
-use Rattle.std.proofs.Common.{◌≡◌, ◌∙◌, ap, inl, inr, refl, sym, true}
-use Rattle.span_tracing.specs.SpanMoments.{moments_of}
-use Rattle.span_tracing_outputs.specs.sinks.SinkCalls.{outputs_hold}
+use Rattle.std.proofs.Common.{ap}
 use Rattle.span_tracing_skeleton.specs.PlainData.{OfTrace, SetStep}
-use Rattle.span_tracing_skeleton.specs.declared.call.Reply.TheVariants.{Refused}
-use Rattle.span_tracing_skeleton.specs.declared.refusal.Refusal.TheVariants.{Busy}
 use Rattle.span_tracing_skeleton.specs.declared.setting.Setting.TheVariants.{SpanEvents}
 use Rattle.span_tracing_skeleton.specs.declared.setting.SpanMoments.{SpanMoments}
-use Rattle.span_tracing_steps.specs.AnySteps.{holds_in}
-use Rattle.span_tracing_laws.specs.runs.DrivenSinks.{holds}
-use Rattle.span_tracing.proofs.TraceValue.{step_carried, step_named}
+use Rattle.span_tracing.proofs.TraceValue.{step_named}
 use Rattle.span_tracing.proofs.steps.Trace+TraceStack+N+E+F+RoutedSinks+AnySink+D.set_span_events.Goals as goal
-
-pub returns-then-is_busy : goal.returns-then-is_busy
-returns-then-is_busy g c =
-    let held : holds_in (holds outputs_hold) c.args.self.now ≡ true =
-    sym (c.is_busy.ensures ∙ ap (holds_in (holds outputs_hold)) c.self.view_is) ∙ c.if-is_busy.true in
-    record {
-      gives = inl (held, refl, refl);
-      follows = λ ready. c.steps_follow.ensures.each _ (OfTrace (SetStep (record { output = c.args.output; setting = SpanEvents (moments_of c.args.events) })))
-          (Refused Busy) _ ready (inl (held, refl, refl));
-    }
 
 pub returns : goal.returns
 returns g c = step_named _ _ _ _ _ _ _ _ _ _ _ _
     (ap (λ (m : SpanMoments). OfTrace (SetStep (record { output = c.args.output; setting = SpanEvents m }))) c.moments_of.ensures)
-    (step_carried _ _ _ _ _ _ _ _ _ _ _ _ c.self.view_is
-    (record {
-      gives = inr (sym c.is_busy.ensures ∙ c.if-is_busy.false, c.set.ensures.gives);
-      follows = λ ready. c.steps_follow.ensures.each _ (OfTrace (SetStep (record { output = c.args.output; setting = SpanEvents c.moments_of.result })))
-          c.set.result _ ready
-          (inr (sym c.is_busy.ensures ∙ c.if-is_busy.false, c.set.ensures.gives));
-    }))
+    c.step.ensures

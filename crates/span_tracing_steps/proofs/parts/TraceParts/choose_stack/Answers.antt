@@ -8,7 +8,8 @@ use Rattle.span_tracing_steps.proofs.parts.TraceParts.choose_stack.Goals as goal
 
 pub unreachable-requires-in_default-set_default : goal.unreachable-requires-in_default-set_default
 unreachable-requires-in_default-set_default g c =
-    default_never g.T.Subscriber g.T.HasRegistry.registry_of g.T.HasOutputs.set (value_in c.args.self.now) c.args.lane c.in-Some.dispatch.now
+    default_never g.T.Subscriber g.T.HasRegistry.registry_of g.T.HasOutputs.set (value_in c.args.self.now) c.args.lane
+    c.in-Some.dispatch.now
     c.in_default-set_default.field-0
     (lane_runs g.T.HasRegistry.registry_of (value_in c.args.self.now) c.args.lane c.requires.sound.running c.requires.free)
     (further_free g.T.HasRegistry.registry_of (value_in c.args.self.now) c.args.handle c.in-Some.dispatch.now

@@ -8,7 +8,8 @@ use Rattle.span_tracing_steps.proofs.parts.TraceParts.set_global_default.Goals a
 
 pub returns-clause-gives : goal.returns-clause-gives
 returns-clause-gives g c =
-    global_given g.T.Subscriber g.T.HasRegistry.registry_of g.T.HasOutputs.set (value_in c.args.self.now) c.args.handle c.in-Some-handle_at.dispatch.now
+    global_given g.T.Subscriber g.T.HasRegistry.registry_of g.T.HasOutputs.set (value_in c.args.self.now) c.args.handle
+    c.in-Some-handle_at.dispatch.now
     c.set_global_default-set.new.self (ap option_copied (sym c.in-Some-handle_at.is) ∙ c.handle_at.ensures ∙
     ap (λ xs. inner (slice_get xs c.args.handle)) c.deref.ensures.value)
     (sym c.global_refusal.ensures ∙ c.in_default.is) c.set_global_default-set.ensures.state

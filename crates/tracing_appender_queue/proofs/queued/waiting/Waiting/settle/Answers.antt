@@ -17,8 +17,10 @@ loop-rest-preserved c =
     record {
       few_lost = shorter r c.loop-rest.lost c.one_if-lost.result _ some c.one_if-lost.ensures.few i.few_lost;
       few_missed = shorter r c.loop-rest.missed c.one_if-missed.result _ some c.one_if-missed.ensures.few i.few_missed;
-      so_far = turned _ w new c.args.lines.now r c.line-item.result fate c.loop-rest.lost c.loop-rest.missed c.one_if-lost.result c.one_if-missed.result some c.line-item.is settles one other i.so_far;
+      so_far = turned _ w new c.args.lines.now r c.line-item.result fate c.loop-rest.lost c.loop-rest.missed c.one_if-lost.result
+          c.one_if-missed.result some c.line-item.is settles one other i.so_far;
     }
 
 pub returns : goal.returns
-returns c = ended c.args.self.now c.loop-rest.self c.args.lines.now c.loop-rest.rest.now c.loop-rest.lost c.loop-rest.missed c.in_default.len_below c.loop-rest.invariant.so_far
+returns c = ended c.args.self.now c.loop-rest.self c.args.lines.now c.loop-rest.rest.now c.loop-rest.lost c.loop-rest.missed
+    c.in_default.len_below c.loop-rest.invariant.so_far

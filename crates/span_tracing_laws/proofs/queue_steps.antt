@@ -1,0 +1,11 @@
+pub mod Places
+pub mod Numbers
+pub mod StackPlaces
+pub mod OutputTurns
+pub mod TraceTurns
+pub mod FailedWrites
+pub mod SinkCuts
+pub mod SinkPlaces
+pub mod OtherSinks
+pub mod TraceCuts
+pub mod QueueCounts

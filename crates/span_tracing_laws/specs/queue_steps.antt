@@ -1,0 +1,4 @@
+pub mod CallTurns
+pub mod SinkPlaces
+pub mod WorkCuts
+pub mod QueueCounts
