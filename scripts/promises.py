@@ -21,7 +21,7 @@ MEMBERS = {
     "span_registry_layers": ["span_registry_layers_store", "span_registry_layers_layers", "span_registry_layers"],
     "event_formatter": ["event_formatter_text", "event_formatter_lines", "event_formatter"],
     "tracing_appender": ["tracing_appender_rolling", "tracing_appender_queue", "tracing_appender"],
-    "span_tracing": ["span_tracing_skeleton", "span_tracing_steps", "span_tracing_outputs", "span_tracing_laws", "span_tracing"],
+    "span_tracing": ["span_tracing_skeleton", "span_tracing_shared", "span_tracing_steps", "span_tracing_outputs", "span_tracing_laws", "span_tracing"],
     "The programs": ["span_trace", "span_trace_bench"],
 }
 # A function of the source: the type or trait that it stands in, its name, its documentation, and its clauses, each with the comment above it.

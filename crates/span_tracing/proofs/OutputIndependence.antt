@@ -31,7 +31,8 @@ use Rattle.span_tracing_laws.specs.runs.Runs.{plain_after}
 use Rattle.span_tracing_laws.specs.runs.Runs.{plain_run, turn_lines}
 use Rattle.span_tracing_laws.specs.runs.StepSettings.{OutputSetting, outs_with, setting_of}
 use Rattle.span_tracing_laws.specs.runs.StepNotices.{Told, event_told_by, span_told_by, values_told_by, told_by, told_of, told_to}
-use Rattle.span_tracing.specs.OutputIndependence.{AllGoAlikeAt, AreAlikeAt, FatedAlikeAt, GoAlikeAt, OutputsGoAlone, list_at}
+use Rattle.span_tracing.specs.OutputIndependence.{AllGoAlikeAt, AreAlikeAt, FatedAlikeAt, GoAlikeAt, OutputsGoAlone}
+use Rattle.span_tracing_laws.specs.starved.StarvedCounts.{list_at}
 
 -- an output's two lines of text, one behind the other
 abbrev both : {A : Type 0} → Option (List A) → Option (List A) → Option (List A)

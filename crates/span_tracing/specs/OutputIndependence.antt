@@ -1,16 +1,12 @@
 -- Each output goes its own way while all filters answer the same, whatever the other outputs' formats and kept texts are, also those of
 -- other stacks, and whatever becomes of their texts and lines.
-use Rattle.std.specs.Prelude.{◌≡◌, ℕ, zero, suc, List, [], ◌∷◌, Option, Some, None, slice_get}
+use Rattle.std.specs.Prelude.{◌≡◌, ℕ, List, [], ◌∷◌, Option, Some, None, slice_get}
 use Rattle.event_formatter_text.specs.declared.format_fields.FormatFields.{Ghosts}
 use Rattle.span_tracing_skeleton.specs.Skeleton.{Skeleton}
-use Rattle.span_tracing_outputs.specs.OutputFolds.{Fates, first_of, rest_of}
+use Rattle.span_tracing_outputs.specs.OutputFolds.{Fates}
 use Rattle.span_tracing_laws.specs.runs.Runs.{Drove, Plain, StepWithMask, Starved, Waited, Went, lines_of, plain_after, plain_run}
 use Rattle.span_tracing_laws.specs.runs.StepNotices.{Told, told_of, told_to}
-
--- of lists for each output, that of the output at a place; nothing where there is none
-abbrev pub list_at : {A : Type 0} → List (List A) → ℕ → List A
-list_at lists zero = first_of lists
-list_at lists (suc place) = list_at (rest_of lists) place
+use Rattle.span_tracing_laws.specs.starved.StarvedCounts.{list_at}
 
 -- two plain states with one skeleton and the same output machine at a place of a stack, whatever their other machines are
 pub record AreAlikeAt {N : Type 0} (stack place : ℕ) (p q : Plain N) : Type 0 where

@@ -11,7 +11,9 @@ ghost use Rattle.span_tracing_outputs.specs.declared.files.output_spec.OutputSpe
 use event_formatter::FormatEvent;
 use event_formatter_text::FormatFields;
 use span_registry_layers_layers::{Filter, Layer};
-pub use span_tracing_laws::{calls_may_change_places, queues_count_exactly, work_may_be_cut};
+pub use span_tracing_laws::{
+    calls_may_change_places, nothing_is_starved, queues_count_exactly, work_may_be_cut,
+};
 use span_tracing_outputs::PendingLines;
 use tracing_core_fields::LevelFilter;
 

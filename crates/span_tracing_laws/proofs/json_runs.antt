@@ -1,4 +1,7 @@
 mod NumbersInRange
 mod Outputs
+mod JsonLines
+mod QueueLines
+mod JsonQueueFiles
 mod JsonFiles
 mod Formats

@@ -2,3 +2,4 @@ pub mod json_runs
 pub mod json
 pub mod runs
 pub mod queue_steps
+pub mod starved

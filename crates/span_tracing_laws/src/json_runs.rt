@@ -21,9 +21,10 @@ pub fn json_outputs_run<N: FormatFields>()
 }
 
 /// After a run of steps each file of a sink of a JSON output, cut at newlines, holds one object of JSON on each line. The sink has to
-/// have dropped no line in the run, and to have been handed objects alone before, its appender has to agree with a sink before the run
-/// (`AgreesSink`), and the contents of its folder have to be known. What the file's opening found has to be made up of such objects, as
-/// an empty file is, or there was no file.
+/// have been handed objects alone before, its appender has to agree with a sink before the run (`AgreesSink`), and the contents of its
+/// folder have to be known. A direct sink has to have dropped no line in the run. At a queued one no line may have found no memory, and
+/// objects alone may wait before the run; then objects alone wait after it, too. What the file's opening found has to be made up of such
+/// objects, as an empty file is, or there was no file.
 pub fn json_files_hold_objects<N: FormatFields, E: FormatEvent, F: Filter, D: Folder>()
     ensures { JsonFilesHoldObjects D.contents D.failed ⟦<N as FormatFields>⟧ E.line_of ⟦<F as Filter>⟧ }
 {

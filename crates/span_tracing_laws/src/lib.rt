@@ -5,6 +5,7 @@ mod json;
 mod json_runs;
 mod queue_steps;
 mod runs;
+mod starved;
 
 pub use json::{
     files_hold_objects, json_format_writes_objects, json_outputs_offer_objects, lines_give_objects,
@@ -15,3 +16,4 @@ pub use runs::{
     files_follow, plain_steps_follow, runs_follow, setup_follows, skipping_misses_nothing,
     steps_follow, traces_stay_counted,
 };
+pub use starved::nothing_is_starved;

@@ -158,10 +158,12 @@ module _ {N E F S : Type 0} (n : Ghosts N) (line_of : E → Settings → PlainCo
                   step_goes n line_of g takes at (span_told wide at (Made a) k.next_id) wide x y mid goes_so.2 over,
                 )
             made (Err e, z, gives, rest) =
+                let answer = asks_answer g h unnumbered a.metadata at x.stack.registry all_pass false x.stack.rows w.0 true w.1 in
                 subst (λ (q : Result (Option ℕ) RequestError). NewSpanGoes n line_of g takes h a at x q y) (sym rest.0) (
                   refused_by (span_refusal x.stack.registry a.parent) x.stack.registry z
                       (with_span x.stack.registry a.metadata (under x.stack.registry at.lane a.parent) w.0) x.stack.registry.next_id e
                       gives,
+                  λ is. (answer.0, answer.1, sym answer.3),
                   stays rest.1,
                 )
 
@@ -171,7 +173,7 @@ module _ {N E F S : Type 0} (n : Ghosts N) (line_of : E → Settings → PlainCo
         span_by true a r known gives = span_afresh a r known gives
         span_by false a r known gives =
             subst (λ (q : Result (Option ℕ) RequestError). NewSpanGoes n line_of g takes h a at x q y) (sym gives.0)
-            (unknown_refused (knows x.stack.registry (explicit_parent a.parent)) _ known, stays gives.1)
+            (unknown_refused (knows x.stack.registry (explicit_parent a.parent)) _ known, λ is. absurd (cc), stays gives.1)
 
   module _ (h : LayerGhosts (Lines N E)) (follow : StackFollows n line_of g h)
       (says : (layer : Lines N E) (t : notices.Notice) (later : Lines N E) → h.told layer t later →

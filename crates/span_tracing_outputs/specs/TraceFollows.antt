@@ -154,15 +154,22 @@ module _ {N E F S : Type 0} (n : Ghosts N) (line_of : E → Settings → PlainCo
       (r ≡ is_closed y.stack.registry id) × StepGoes at (call_lists (close_told k at id)) (swept (without_handle k id)) x y
   CloseIf (Some refusal) id at x r y = (r ≡ false) × (y ≡ x)
 
+  -- some output's filter passes the callsite
+  abbrev pub SomePassesSpan : PlainMetadata → At → TraceStackValue N E F S → Type 0
+  SomePassesSpan m at x =
+      (passed : List Bool) × EachAnswers g.answers m at x.stack.registry x.stack.rows passed × (some_passes passed ≡ true)
+
   module _ (h : LayerGhosts (Lines N E)) where
-    -- a span that each filter refuses, asked again, is dropped: marks alone change
+    -- a span that each filter refuses, asked again, is dropped: marks alone change; and only for one that some filter passes is there no
+    -- memory
     abbrev pub NewSpanGoes : PlainAttributes → At → TraceStackValue N E F S → Result (Option ℕ) RequestError → TraceStackValue N E F S →
         Type 0
     NewSpanGoes a at x (Ok None) y =
         (knows x.stack.registry (explicit_parent a.parent) ≡ true) × AllRefuse g h a.metadata at x.stack × (y.stack ≡ cleared x.stack) ×
         Rests x y
     NewSpanGoes a at x (Ok (Some id)) y = MadeGoes a at x id y
-    NewSpanGoes a at x (Err e) y = RefusedBy (span_refusal x.stack.registry a.parent) e × (y ≡ x)
+    NewSpanGoes a at x (Err e) y = RefusedBy (span_refusal x.stack.registry a.parent) e ×
+        (e ≡ OutOfMemory → SomePassesSpan a.metadata at x) × (y ≡ x)
 
     -- what a call answers, and what it makes of the outputs and of the sinks
     abbrev pub TraceGoes : TraceStackValue N E F S → (c : Call) → ReplyTo c → TraceStackValue N E F S → Type 0

@@ -46,6 +46,7 @@ impl<T: Subscriber + HasRegistry + HasSinks> TraceParts<T> {
 
     /// Whether a line is held beside the queue of a sink, whose stack may have been released, but not taken. Each step but the calls on
     /// queues is refused then.
+    #[inline(always)]
     pub fn is_busy(&self) -> bool
         ensures { result ≡ holds_in T.holds (value_in self.now) }
     {

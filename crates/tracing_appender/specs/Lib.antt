@@ -1,3 +1,4 @@
+pub mod background
 pub mod ClockMoments
 pub mod SystemClocks
 pub mod Refusals

@@ -5,8 +5,12 @@
 //! an `io::Write` and takes the lines of a formatter as a `MakeWriter`; each write looks at the clock once, and
 //! changes the file where its period is over. To write some bytes to one file whatever time it gets meanwhile, ask it
 //! for a writer by `make_writer`.
+//!
+//! Where a writer is too slow for the threads that log, a worker thread can write for them: `non_blocking` puts a queue of lines
+//! before any writer.
 #![tactic(auto)]
 
+mod background;
 mod clock;
 mod clocked;
 mod fixed;
@@ -14,6 +18,10 @@ mod refusal;
 mod system;
 mod writer;
 
+pub use background::{
+    DEFAULT_BUFFERED_LINES_LIMIT, ErrorCounter, NonBlocking, NonBlockingBuilder, StartError,
+    StartRefusal, WorkerGuard, non_blocking,
+};
 pub use clock::Clock;
 pub use clocked::{Clocked, ClockedAppender};
 pub use fixed::FixedClock;

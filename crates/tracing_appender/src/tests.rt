@@ -5,10 +5,11 @@ ghost use Rattle.tracing_core_moments.specs.Moments.{is_moment};
 
 mod clocks;
 mod refused;
+mod threads;
 
 use crate::{
     Builder, Clock, Clocked, ClockedAppender, FaultyFolder, FixedClock, Folder, MemoryFolder,
-    Moment, RollingFileAppender, Rotation,
+    Moment, RollingFileAppender, Rotation, non_blocking,
 };
 use clocks::{FEBRUARY, HourClock};
 use event_formatter_text::MakeWriter;
@@ -124,5 +125,27 @@ fn a_writer_stays_with_its_file(rt: HostRuntime) -> Result<(), Fail> {
     put(&mut writer, b"file 2\n")?;
     assert!(rt; has_two_hours(clocked.appender().folder())?);
     assert_eq!(rt; clocked.into_appender().into_folder().files()?.len(), 2);
+    Ok(())
+}
+
+#[test]
+fn a_worker_writes_lines_of_a_formatter_to_a_file(rt: HostRuntime) -> Result<(), Fail> {
+    let alloc = rt.alloc();
+    let appender = hourly_files(alloc, MemoryFolder::new(alloc))?;
+    let files = appender.clocked(FixedClock::new(later(0)?));
+    let (mut sender, guard) = threads::started(non_blocking(rt, alloc, files))?;
+    let first = hand(&mut sender, b"file 1\n");
+    let second = put(&mut sender, b"file 1\n");
+    let files = guard.finish(&rt);
+    first?;
+    second?;
+    let folder = files.appender().folder();
+    assert!(rt;
+        holds(
+            folder,
+            "test_make_writer.2020-02-01-10",
+            b"file 1\nfile 1\n"
+        )?
+    );
     Ok(())
 }

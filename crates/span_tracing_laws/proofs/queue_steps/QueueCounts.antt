@@ -146,7 +146,7 @@ module _ {D : Type 0} (contents : D → Option Contents) (failed : D → ℕ) (e
       let later = counts ts mid new rest in
       record {
         fates = first.fates ++ later.fates;
-        told = (mid, first.fates, later.fates, refl, first.settled, later.told);
+        told = (mid, first.fates, later.fates, refl, first.settled, first.files, later.told);
         lossy = later.lossy ∙ one.lossy;
         dropped = λ few. rose_twice old.waiting.queue.dropped mid.waiting.queue.dropped new.waiting.queue.dropped (dropped_in first.fates)
             (dropped_in later.fates) (dropped_in (first.fates ++ later.fates)) few (one.dropped few) later.dropped

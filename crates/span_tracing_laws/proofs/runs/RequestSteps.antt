@@ -1,7 +1,6 @@
 -- What a stack makes of a call, and steps that hand a request to a stack.
 use Rattle.std.proofs.Common.{◌≡◌, inr, ℕ, Bool, true, false, not, nat_lt, List, [], Option, Some, None}
 use Rattle.std.proofs.Common.{Ok, Err, refl, sym, ap, ◌∙◌, subst}
-use Rattle.std.specs.Prelude.{IsSome}
 use Rattle.tracing_core_fields.specs.PlainMetadata.{PlainMetadata}
 use Rattle.tracing_core_fields.specs.requests.Calls.{Call, ReplyTo, Asked, SpanMade, EventDispatched}
 use Rattle.tracing_core_fields.specs.requests.PlainRequests.{PlainEvent}
@@ -39,9 +38,8 @@ use Rattle.span_tracing_skeleton.specs.Skeleton.{Skeleton, Answers, Unasked, Wan
 use Rattle.span_tracing_skeleton.specs.declared.call.EnabledCall.{EnabledCall}
 use Rattle.span_tracing_skeleton.specs.declared.call.Parent.{Parent}
 use Rattle.span_tracing_skeleton.specs.declared.call.Reply.{Reply}
-use Rattle.span_tracing_skeleton.specs.declared.call.Reply.TheVariants.{Done, Span, Refused}
+use Rattle.span_tracing_skeleton.specs.declared.call.Reply.TheVariants.{Done, Span}
 use Rattle.span_tracing_skeleton.specs.SpanNames.{name_of}
-use Rattle.span_tracing_skeleton.specs.declared.refusal.Refusal.TheVariants.{OutOfMemory}
 use Rattle.span_tracing_steps.specs.States.{held_in, stack_in}
 use Rattle.span_tracing_steps.specs.Steps.{CallGoes, EventGoes}
 use Rattle.span_tracing_steps.specs.Steps.{QuestionGoes, SpanGoes}
@@ -154,10 +152,10 @@ module _ {N E F S : Type 0} (n : Ghosts N) (line_of : E → Settings → PlainCo
       (subst (λ (o : Option Stack). AnswersQuestion g h o m here (Wanted goes.0)) (sym there) call.1.0))) goes.2 refl refl
       (stays v w stack x call.0 there call.2 call.1.1) ready
 
-  -- a new span that finds no memory, or none that reading could tell of
+  -- a new span that nothing refuses but want of memory
   pub span_refused : (s : Skeleton) (x : Stack) (lane stack : ℕ) (parent : Parent) (error : RequestError) → reach s lane ≡ Some stack →
       registry_at s stack ≡ bare x.stack.registry → parent_refusal s lane parent ≡ None → ids_refusal s lane ≡ None →
-      RefusedBy (gives.span_refusal x.stack.registry (told_parent parent)) error → span_reply stack (Err error) ≡ Refused OutOfMemory
+      RefusedBy (gives.span_refusal x.stack.registry (told_parent parent)) error → error ≡ errors.OutOfMemory
   span_refused s x lane stack parent error at home known left w =
       let is : reached s lane ≡ bare x.stack.registry = ap (reached_by s) at ∙ home in
       let left_there : nat_lt gives.most x.stack.registry.next_id ≡ false =
@@ -166,7 +164,7 @@ module _ {N E F S : Type 0} (n : Ghosts N) (line_of : E → Settings → PlainCo
       ap (λ (b : Bool). gives.first (gives.when (not b) errors.UnknownParent)
       (gives.when (nat_lt gives.most x.stack.registry.next_id) errors.IdsSpent))
       (parent_known s x.stack.registry lane stack parent at home known) ∙ ap (λ (b : Bool). gives.when b errors.IdsSpent) left_there in
-      ap (λ (e : RequestError). span_reply stack (Err e)) (subst (λ (o : Option RequestError). RefusedBy o error) none w)
+      subst (λ (o : Option RequestError). RefusedBy o error) none w
 
   -- a new span
   pub span_goes : (v : Traced N E F S) (q : Request) (reply : Reply) (w : Traced N E F S) (o : Option ℕ) (k : Option PlainMetadata) →
@@ -181,17 +179,27 @@ module _ {N E F S : Type 0} (n : Ghosts N) (line_of : E → Settings → PlainCo
   span_goes v q reply w (Some stack) None at is ready none goes = absurd goes
   span_goes v q reply w (Some stack) (Some m) at is ready none (Err error, goes, told) =
       let s = skeleton_of v in
+      let here = place_at q.lane q.moment in
       let (x, there) = reached_there n line_of g takes h v q.lane stack at in
-      let call = called stack x (SpanMade (request_of m q) (place_at q.lane q.moment)) (Err error) v w ready there goes in
+      let call = called stack x (SpanMade (request_of m q) here) (Err error) v w ready there goes in
       let request = request_refusal s q.lane q.moment q.callsite true q.parent in
       let asked = first_none request (ids_refusal s q.lane) none in
-      let same : w ≡ v = stays v w stack x call.0 there call.2 call.1.1 in (
+      let same : w ≡ v = stays v w stack x call.0 there call.2 call.1.2 in
+      let out = span_refused s x q.lane stack q.parent error at (registry_there registry_of v stack x there)
+      (parent_passed n line_of g takes h s q.lane q.moment (known s q.callsite true) q.parent asked)
+      (second_none request (ids_refusal s q.lane) none) call.1.0 in
+      let some = call.1.1 out in
+      let passed = verdicts_from all_pass (numbers_in x.stack.rows) some.0 in
+      let asks = λ (number : ℕ) (d : PlainMetadata) (b : Answers). AnswersSpan g h (held_in v number) d here b in (
         inr (
-          told ∙ span_refused s x q.lane stack q.parent error at (registry_there registry_of v stack x there)
-              (parent_passed n line_of g takes h s q.lane q.moment (known s q.callsite true) q.parent asked)
-              (second_none request (ids_refusal s q.lane) none) call.1.0,
+          told ∙ ap (λ (e : RequestError). span_reply stack (Err e)) out,
           none,
-          subst (λ (o : Option ℕ). IsSome o) (sym at) refl,
+          (
+            passed,
+            subst (λ (o : Option ℕ). AskedWhere o (known s q.callsite true) asks (Passed passed)) (sym at)
+                (subst (λ (c : Option PlainMetadata). AskedWhere (Some stack) c asks (Passed passed)) (sym is)
+                (subst (λ (o : Option Stack). AnswersSpan g h o m here (Passed passed)) (sym there) (some.0, some.1, some.2, refl))),
+          ),
           same,
         ),
         subst (TraceIsReady g h) (sym same) ready,

@@ -248,7 +248,7 @@ module _ {N E F S : Type 0} (n : Ghosts N) (line_of : E → Settings → PlainCo
   asked_before (Some x) (Some y) None t stays w = w
   asked_before (Some x) (Some y) (Some z) t stays w = subst (λ (ss : List S). StackMeets takes calls t ss z.sinks) stays.sinks w
 
-  turn_by : (road : Road) (v : Traced N E F S) (t : StepWithMask) (reply : Reply) (w : Traced N E F S) (p : Plain N) →
+  pub turn_by : (road : Road) (v : Traced N E F S) (t : StepWithMask) (reply : Reply) (w : Traced N E F S) (p : Plain N) →
       TurnBy n line_of g takes calls held h road v t reply w → AgreesPlain n line_of g v p → TurnAgrees v t reply w p
   turn_by Caching v t reply w p goes agrees = turn_agrees v t reply w p goes agrees
   turn_by Asking v t reply w p (start, keeps, goes) agrees =

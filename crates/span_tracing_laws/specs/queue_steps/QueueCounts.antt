@@ -8,11 +8,11 @@ use Rattle.span_tracing_outputs.specs.sinks.AnySinks.{CallsQueue, bytes_in}
 use Rattle.span_tracing_outputs.specs.sinks.SinkTurns.{Asked, Came, QueueMeetsAll, SinkTurn}
 
 module _ {D : Type 0} (contents : D → Option Contents) (failed : D → ℕ) where
-  -- the fates of the lines that came, in order; each is as the queue's state decides, or the line found no memory
+  -- the fates of the lines that came, in order; each is as the queue's state decides, or the line found no memory, and none is written
   abbrev pub FatesOf : List SinkTurn → List Fate → QueuedSink D → QueuedSink D → Type 0
   FatesOf [] fates old new = (fates ≡ []) × (new ≡ old)
   FatesOf (Came lines ∷ ts) fates old new = (mid : QueuedSink D) × (first later : List Fate) × (fates ≡ first ++ later) ×
-      SettlesAll old.waiting (bytes_in lines) first mid.waiting × FatesOf ts later mid new
+      SettlesAll old.waiting (bytes_in lines) first mid.waiting × (mid.appender ≡ old.appender) × FatesOf ts later mid new
   FatesOf (Asked call reply ∷ ts) fates old new = (mid : QueuedSink D) × CallsQueue contents failed call old reply mid ×
       FatesOf ts fates mid new
 

@@ -137,12 +137,12 @@ module _ {N E F S : Type 0} (n : Ghosts N) (line_of : E → Settings → PlainCo
           OutputsFollow (told_to N number (told_of N (skeleton_of v) step answers)) fates
           (stack_with number (setting_of (skeleton_of v) step) (stack_in v number)) (stack_in w number)
 
-    -- what takes room of its own: a new span of a reached stack, an entry of a span, a guard, and a handle
+    -- what takes room of its own: a new span that some filter of the reached stack passes, an entry of a span, a guard, and a handle
     abbrev pub TakesRoom : Traced N E F S → PlainStep → Type 0
     TakesRoom v (GlobalStep handle) = ⊥
     TakesRoom v (EventStep e) = ⊥
     TakesRoom v (EnabledStep call) = ⊥
-    TakesRoom v (SpanStep n) = IsSome (reach (skeleton_of v) n.lane)
+    TakesRoom v (SpanStep q) = (passed : List Bool) × IsAnswered g h v (SpanStep q) (Passed passed)
     TakesRoom v (RecordStep r) = ⊥
     TakesRoom v (FollowsFromStep call) = ⊥
     TakesRoom v (EnterStep call) = IsSome call.span

@@ -1,0 +1,4 @@
+pub mod WholeFates
+pub mod ToldByNumbers
+pub mod WholeRuns
+pub mod CountedRuns

@@ -1,0 +1,4 @@
+pub mod Following
+pub mod Journals
+pub mod MachineReplies
+pub mod Runs

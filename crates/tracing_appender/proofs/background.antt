@@ -1,0 +1,2 @@
+pub mod TakenLines
+pub mod SentLines
