@@ -99,7 +99,7 @@ fn replay<X: Files + AllocGlobal + Clone + Drop, R: Read>(
         callsites,
         folders,
         mut shelf,
-    } = Stage::set_up(rt, setup)?;
+    } = Stage::<LogStack<X>>::set_up(alloc, rt, setup)?;
     let replies = run_steps(alloc, &mut trace, callsites.as_slice(), &mut shelf, steps)?;
     Ok(Answer {
         replies,

@@ -1,11 +1,11 @@
 //! The steps of a script, run on a trace.
 
 use crate::lines::{CallsiteLine, NamedValue, RecordLine, StepLine, SwapLine};
-use crate::stack::LogStack;
-use span_tracing::{FieldValue, RecordCall, Refusal, Reply, SpanName, Step, Trace};
+use crate::stack::LeveledStack;
+use span_tracing::{FieldValue, Folder, RecordCall, Refusal, Reply, SpanName, Step, Trace};
+use span_tracing_skeleton::{HasOutputs, HasRegistry, HasSinks};
 use std::alloc::{AllocError, Global};
-use std::rt::Files;
-use tracing_core::LevelFilter;
+use tracing_core::{LevelFilter, Subscriber};
 
 /// The replies so far, and which callsite each span is of.
 #[derive(Debug, Drop)]
@@ -30,9 +30,9 @@ impl Replies {
     }
 
     /// Runs the steps, which are then done.
-    fn run<X: Files + AllocGlobal + Clone + Drop>(
+    fn run<D: Folder>(
         &mut self,
-        trace: &mut Trace<LogStack<X>>,
+        trace: &mut Trace<LeveledStack<D>>,
         steps: &mut Vec<Step>,
     ) -> Result<(), AllocError> {
         let replies = trace.run(steps.as_slice())?;
@@ -58,9 +58,9 @@ impl Replies {
 
 /// Runs the steps in order. Before a record those so far are run, since their replies tell the callsite of its span, and so before a swap,
 /// which is no step of a run.
-pub(crate) fn run_steps<X: Files + AllocGlobal + Clone + Drop>(
+pub(crate) fn run_steps<D: Folder>(
     alloc: Global,
-    trace: &mut Trace<LogStack<X>>,
+    trace: &mut Trace<LeveledStack<D>>,
     callsites: &[CallsiteLine],
     shelf: &mut [LevelFilter],
     lines: Vec<StepLine>,
@@ -86,19 +86,27 @@ pub(crate) fn run_steps<X: Files + AllocGlobal + Clone + Drop>(
 }
 
 /// Lets the filter of an output and one of the shelf change places.
-fn swapped<X: Files + AllocGlobal + Clone + Drop>(
-    trace: &mut Trace<LogStack<X>>,
+fn swapped<D: Folder>(
+    trace: &mut Trace<LeveledStack<D>>,
     shelf: &mut [LevelFilter],
     swap: SwapLine,
 ) -> Reply {
     match shelf.get_mut(swap.shelf) {
         Some(filter) => trace.swap_filter(swap.output, filter),
-        None if trace.is_busy() => Reply::Refused(Refusal::Busy),
-        None => {
-            let refusal = trace.output_refusal(swap.output);
-            Reply::Refused(refusal.unwrap_or(Refusal::UnknownShelf))
-        }
+        None => Reply::Refused(swap_refusal(trace, swap.output)),
     }
+}
+
+/// Why a filter that the shelf lacks isn't swapped with that of an output.
+fn swap_refusal<T: Subscriber + HasRegistry + HasOutputs + HasSinks>(
+    trace: &Trace<T>,
+    output: usize,
+) -> Refusal {
+    if trace.is_busy() {
+        return Refusal::Busy;
+    }
+    let refusal = trace.output_refusal(output);
+    refusal.unwrap_or(Refusal::UnknownShelf)
 }
 
 /// The first callsite of that id.

@@ -2,31 +2,34 @@
 
 use crate::fault::{Fault, Stop};
 use crate::lines::{CallsiteLine, LaneLine, Setup, StackLine};
-use crate::stack::{LogStack, stack_of};
+use crate::stack::OpensStacks;
 use span_tracing::{Refusal, Trace};
+use span_tracing_skeleton::{HasOutputs, HasRegistry, HasSinks};
 use std::alloc::{AllocError, Global};
-use std::rt::Files;
-use tracing_core::{FieldSet, Identifier, LevelFilter, Metadata};
+use tracing_core::{FieldSet, Identifier, LevelFilter, Metadata, Subscriber};
 
 /// A trace that is set up, its callsites' lines, and for each sink the name under which its files are shown, where they are in
 /// memory: of the first stack's sinks in order, then of the second's, and so on.
 #[derive(Drop)]
-pub(crate) struct Stage<X: Files + AllocGlobal + Clone + Drop> {
-    pub(crate) trace: Trace<LogStack<X>>,
+pub(crate) struct Stage<T: Subscriber> {
+    pub(crate) trace: Trace<T>,
     pub(crate) callsites: Vec<CallsiteLine>,
     pub(crate) folders: Vec<Option<String>>,
     /// Filters that steps may let change places with those of outputs.
     pub(crate) shelf: Vec<LevelFilter>,
 }
 
-impl<X: Files + AllocGlobal + Clone + Drop> Stage<X> {
+impl<T: Subscriber + HasRegistry + HasOutputs + HasSinks> Stage<T> {
     /// Makes the calls in order.
     ///
     /// # Errors
     ///
     /// The first refused call, by its line.
-    pub(crate) fn set_up(rt: &X, setup: Vec<Setup>) -> Result<Stage<X>, Stop> {
-        let alloc = rt.alloc();
+    pub(crate) fn set_up<O: OpensStacks<T>>(
+        alloc: Global,
+        opener: &O,
+        setup: Vec<Setup>,
+    ) -> Result<Stage<T>, Stop> {
         let mut stage = Stage {
             trace: Trace::new(alloc),
             callsites: Vec::new(alloc),
@@ -36,24 +39,29 @@ impl<X: Files + AllocGlobal + Clone + Drop> Stage<X> {
         let mut number: u64 = 0;
         for call in setup {
             number = number.saturating_add(1);
-            if let Err(fault) = stage.make(rt, call) {
+            if let Err(fault) = stage.make(alloc, opener, call) {
                 return Err(Stop::Line { number, fault });
             }
         }
         Ok(stage)
     }
 
-    fn make(&mut self, rt: &X, call: Setup) -> Result<(), Fault> {
+    fn make<O: OpensStacks<T>>(
+        &mut self,
+        alloc: Global,
+        opener: &O,
+        call: Setup,
+    ) -> Result<(), Fault> {
         match call {
-            Setup::Stack(line) => self.add_stack(rt, line),
-            Setup::Callsite(line) => self.add_callsite(rt.alloc(), line),
+            Setup::Stack(line) => self.add_stack(opener, line),
+            Setup::Callsite(line) => self.add_callsite(alloc, line),
             Setup::Lane(line) => self.add_lane(line).map_err(Fault::Refused),
             Setup::Shelf(filter) => Ok(self.shelf.push(filter)?),
         }
     }
 
-    fn add_stack(&mut self, rt: &X, line: StackLine) -> Result<(), Fault> {
-        let stack = stack_of(rt, line, &mut self.folders)?;
+    fn add_stack<O: OpensStacks<T>>(&mut self, opener: &O, line: StackLine) -> Result<(), Fault> {
+        let stack = opener.open(line, &mut self.folders)?;
         match self.trace.add_stack(stack) {
             Ok(_) => Ok(()),
             Err(_) => Err(Fault::Refused(Refusal::OutOfMemory)),

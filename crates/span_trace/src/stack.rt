@@ -14,27 +14,33 @@ use tracing_core::LevelFilter;
 /// A folder in memory, or one of the system.
 pub(crate) type LogFolder<X> = EitherFolder<MemoryFolder, DiskFolder<X>>;
 
+/// Outputs under levels, whose files are in folders.
+pub(crate) type LeveledStack<D> = FileStack<LevelFilter, D>;
+
 /// Outputs under levels, whose files are in such folders.
-pub(crate) type LogStack<X> = FileStack<LevelFilter, LogFolder<X>>;
+pub(crate) type LogStack<X> = LeveledStack<LogFolder<X>>;
 
 /// An output under a level, before its files are opened.
 type LeveledOutput<X> = OutputSpec<LevelFilter, LogFolder<X>>;
 
-/// The stack of a line, whose files are opened. For each sink a name is added: that of a folder in memory, and none of a folder of the
-/// system.
-///
-/// # Errors
-///
-/// What is refused of an output or of the stack, else out of memory.
-pub(crate) fn stack_of<X: Files + AllocGlobal + Clone + Drop>(
-    rt: &X,
-    line: StackLine,
-    names: &mut Vec<Option<String>>,
-) -> Result<LogStack<X>, Fault> {
-    let outputs = outputs_of(rt, line.outputs, names)?;
-    match open_stack(rt.alloc(), outputs, line.moment) {
-        Ok(stack) => Ok(stack),
-        Err(refused) => Err(Fault::Refused(refused.refusal)),
+/// Opens stacks for a trace. What calls it needn't know their whole type, in which its proof would take minutes.
+pub(crate) trait OpensStacks<T> {
+    /// The stack of a line, whose files are opened. For each sink a name is added: that of a folder in memory, and none of a folder of
+    /// the system.
+    ///
+    /// # Errors
+    ///
+    /// What is refused of an output or of the stack, else out of memory.
+    fn open(&self, line: StackLine, names: &mut Vec<Option<String>>) -> Result<T, Fault>;
+}
+
+impl<X: Files + AllocGlobal + Clone + Drop> OpensStacks<LogStack<X>> for X {
+    fn open(&self, line: StackLine, names: &mut Vec<Option<String>>) -> Result<LogStack<X>, Fault> {
+        let outputs = outputs_of(self, line.outputs, names)?;
+        match open_stack(self.alloc(), outputs, line.moment) {
+            Ok(stack) => Ok(stack),
+            Err(refused) => Err(Fault::Refused(refused.refusal)),
+        }
     }
 }
 
