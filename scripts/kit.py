@@ -55,6 +55,8 @@ class Crate(rt.Crate):
     kept = None
     keeps = True
     made_from = None
+    # how many processes of the prover a proof takes
+    jobs = 1
 
     @property
     def cuts_libraries(self):
@@ -72,7 +74,7 @@ class Crate(rt.Crate):
 
     def prove_whole(self):
         """Proves the crate from nothing and returns the status. Of a program, what LLVM makes of it is then linked."""
-        flags = ["--jobs", "1"]
+        flags = ["--jobs", str(self.jobs)]
         if not self.is_program:
             return self.build_rlib(flags, anew=True)
         to = f"out/{self.name}"

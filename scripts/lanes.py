@@ -23,8 +23,8 @@ PR_SET_PDEATHSIG = 1
 MEMORY = 4_000_000_000
 
 
-def begun(task):
-    """Starts the task in a process of its own and returns its number and the files that it writes."""
+def begun(task, jobs):
+    """Starts the task in a process of its own, a proof of which takes so many processes, and returns its number and the files that it writes."""
     said, gave = tempfile.TemporaryFile(), tempfile.TemporaryFile()
     sys.stdout.flush()
     child = os.fork()
@@ -37,6 +37,7 @@ def begun(task):
     try:
         # its first call sets a signal's handler, which only the main thread may; what the task starts ends with it then
         rtlib.guarded()
+        kit.Crate.jobs = jobs
         result = task.call()
         gave.write(json.dumps(result).encode())
         gave.flush()
@@ -89,9 +90,10 @@ class Run:
 
     def start(self):
         """Starts tasks, those with the longest chain first, while a processor and memory are free. Edits come after all else, since there may be no time
-        for some of them."""
+        for some of them. Where fewer tasks are ready than processors are free, the first proof takes the others too."""
         self.left.sort(key=lambda it: (it[1].startswith("edits"), -self.chain[it]))
         ready = [it for it in self.left if all(below in self.ended for below in self.tasks[it].waits)]
+        spare = max(0, self.lanes - len(self.running) - len(ready))
         for key in ready:
             if not all(self.ended[below].is_well for below in self.tasks[key].waits):
                 self.left.remove(key)
@@ -101,7 +103,8 @@ class Run:
                 break
             elif len(self.running) < self.lanes:
                 self.left.remove(key)
-                child, said, gave = begun(self.tasks[key])
+                jobs, spare = (1 + spare, 0) if key[1] == "proof" else (1, spare)
+                child, said, gave = begun(self.tasks[key], jobs)
                 self.running[child] = key, said, gave, time.time()
 
     def wait(self):
