@@ -1,4 +1,4 @@
-pub mod Following
+pub mod FollowedSteps
 pub mod Journals
 pub mod MachineReplies
 pub mod Runs

@@ -17,7 +17,7 @@ Ran steps before after = (more : List PlainCall) × (after ≡ before ++ more) �
 abbrev pub RanAll : List AnyStep → List PlainCall → List PlainCall → Type 0
 RanAll steps before after = (more : List PlainCall) × (after ≡ before ++ more) × (steps_of more ≡ steps)
 
--- a seat ran the steps, up to a want of memory that it tells of
+-- a seat ran the steps, up to where there was no memory, which it tells
 pub record Went {L : Type 0} (steps : List AnyStep) (before after : Seat L) : Type 0 where
   pub lane : after.lane ≡ before.lane
   pub ran : Ran steps (own_calls before) (own_calls after)

@@ -100,7 +100,7 @@ impl<L: Ledger, T: CarriesOut> Book<L, T> {
     ///
     /// # Errors
     ///
-    /// Want of memory: both come back.
+    /// Out of memory: both come back.
     pub fn new(
         alloc: Global,
         blank: Blank,
@@ -134,7 +134,7 @@ impl<L: Ledger, T: CarriesOut> Book<L, T> {
     ///
     /// # Errors
     ///
-    /// Want of memory for the entries, whose room is made first: then nothing is done.
+    /// Out of memory for the entries, whose room is made first: then nothing is done.
     #[tactic(auto, using(crate::proofs::Journals::journal_more, crate::proofs::Journals::calls_more))]
     pub fn perform(&mut self, seat: &mut Seat<L>, step: &Step) -> Result<Reply, AllocError>
         requires { IsOfLane seat.old.lane (any_step step.now) }

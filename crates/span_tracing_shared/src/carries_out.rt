@@ -30,7 +30,7 @@ pub trait CarriesOut: Drop {
     ///
     /// # Errors
     ///
-    /// Want of memory.
+    /// Out of memory.
     fn start(&self) -> Result<Self::Start, AllocError>
         ensures { IfOk result (λ copy. copied copy ≡ skeleton self.now) };
 
@@ -39,7 +39,7 @@ pub trait CarriesOut: Drop {
         ensures { result ≡ length (skeleton self.now).lanes };
 
     /// Carries out a step. It answers the reply, and of each output of the stack that was reached whether its filter passed the callsite of
-    /// the request. Where it refuses the step for want of memory, or since a line is held, what decides replies is as it was.
+    /// the request. Where it refuses the step for lack of memory, or since a line is held, what decides replies is as it was.
     fn carry_out(&mut self, step: &Step) -> (Reply, Mask)
         requires { ready self.old }
         ensures ready { ready self.new }

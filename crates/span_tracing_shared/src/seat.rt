@@ -21,7 +21,7 @@ pub struct Seat<L: Ledger> {
     pub(crate) lane: usize,
     pub(crate) share: Share<L>,
     pub(crate) own: Vec<Call>,
-    // The last run stopped for want of memory for an entry.
+    // The last run stopped because there was no memory for an entry.
     pub(crate) stopped: bool,
     ghost one_part: { share.parts ≡ 1 },
     ghost counted: { share.amount ≡ vec_len own },
@@ -54,7 +54,7 @@ impl<L: Ledger> Seat<L> {
         self.own.as_slice()
     }
 
-    /// Whether its last run stopped for want of memory for an entry.
+    /// Whether its last run stopped because there was no memory for an entry.
     pub fn is_stopped(&self) -> bool
         ensures { result ≡ self.now.stopped }
     {

@@ -122,7 +122,7 @@ pub fn fits<L: Ledger>(seats: &[Seat<L>], lists: &[Vec<Step>]) -> bool
     true
 }
 
-// Whether some lane's last run stopped for want of memory.
+// Whether some lane's last run stopped because there was no memory.
 fn some_stopped<L: Ledger>(seats: &[Seat<L>]) -> bool
     ensures { result ≡ list_any (λ seat. seat.stopped) seats.now }
 {
@@ -137,7 +137,7 @@ impl<L: Ledger, T: CarriesOut> Shared<L, T> {
     ///
     /// # Errors
     ///
-    /// Want of memory: both come back.
+    /// Out of memory: both come back.
     pub fn new(
         alloc: Global,
         blank: Blank,
@@ -175,7 +175,7 @@ impl<L: Ledger, T: CarriesOut> Shared<L, T> {
     ///
     /// # Errors
     ///
-    /// Want of memory for the entries: then nothing is done.
+    /// Out of memory for the entries: then nothing is done.
     pub fn call<R: Wait>(
         &self,
         rt: &R,
@@ -191,7 +191,7 @@ impl<L: Ledger, T: CarriesOut> Shared<L, T> {
         self.book.lock(rt).perform(seat, step)
     }
 
-    // The steps of one lane, up to the first want of memory.
+    // The steps of one lane, until there is no memory.
     fn run_steps<R: Wait, G: Gate>(
         &self,
         rt: &R,
@@ -213,7 +213,7 @@ impl<L: Ledger, T: CarriesOut> Shared<L, T> {
         Ok(())
     }
 
-    /// The steps of one lane, up to the first want of memory for entries. The seat tells too whether it came to that.
+    /// The steps of one lane, until there is no memory for an entry. The seat tells too whether it came to that.
     ///
     /// # Errors
     ///
@@ -259,7 +259,7 @@ impl<L: Ledger, T: CarriesOut> Shared<L, T> {
 }
 
 impl<L: Ledger + Send + Sync, T: CarriesOut<Start: Send> + Send> Shared<L, T> {
-    /// Two lanes, each in a thread, up to the first want of memory for entries of each.
+    /// Two lanes, each in a thread, each until there is no memory for an entry.
     pub fn run_two<R: Threads + Wait + Sync, G: Gate + Sync>(
         &self,
         rt: &R,
@@ -292,7 +292,7 @@ impl<L: Ledger + Send + Sync, T: CarriesOut<Start: Send> + Send> Shared<L, T> {
         )
     }
 
-    /// Any number of lanes, each in a thread, up to the first want of memory for entries of each.
+    /// Any number of lanes, each in a thread, each until there is no memory for an entry.
     ///
     /// # Errors
     ///

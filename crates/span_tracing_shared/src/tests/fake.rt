@@ -146,7 +146,7 @@ impl CarriesOut for Fake {
         self.lanes
     }
 
-    #[tactic(auto, using(crate::proofs::Following::answered_so, crate::proofs::Following::left_so, crate::proofs::Following::stays))]
+    #[tactic(auto, using(crate::proofs::FollowedSteps::answered_so, crate::proofs::FollowedSteps::left_so, crate::proofs::FollowedSteps::stays))]
     fn carry_out(&mut self, step: &Step) -> (Reply, Mask) {
         match step {
             Step::Event(event) => (self.event(event), Mask::none()),
