@@ -9,6 +9,7 @@ pub mod OutputIndependence
 pub mod Levels
 pub mod Sites
 pub use Rattle.span_tracing_skeleton.specs.Acting
+pub use Rattle.span_tracing_skeleton.specs.Counting
 pub use Rattle.span_tracing_skeleton.specs.Looking
 pub use Rattle.span_tracing_skeleton.specs.Machine
 pub use Rattle.span_tracing_skeleton.specs.Order
@@ -19,18 +20,22 @@ pub use Rattle.span_tracing_skeleton.specs.Refusing
 pub use Rattle.span_tracing_skeleton.specs.Replies
 pub use Rattle.span_tracing_skeleton.specs.declared.call.Reply
 pub use Rattle.span_tracing_skeleton.specs.declared.call_error.CallError
+pub use Rattle.span_tracing_skeleton.specs.declared.queue_call.QueueCall
 pub use Rattle.span_tracing_skeleton.specs.declared.refusal.Refusal
 pub use Rattle.span_tracing_skeleton.specs.declared.setting.OutputPlace
 pub use Rattle.span_tracing_skeleton.specs.declared.setting.Setting
 pub use Rattle.span_tracing_steps.specs.AnySteps
 pub use Rattle.span_tracing_steps.specs.Asking
+pub use Rattle.span_tracing_steps.specs.FilterSwaps
 pub use Rattle.span_tracing_steps.specs.InterestPreservation
 pub use Rattle.span_tracing_steps.specs.Interests
+pub use Rattle.span_tracing_steps.specs.Runs as StepRuns
 pub use Rattle.span_tracing_steps.specs.Setup as SetupSteps
 pub use Rattle.span_tracing_steps.specs.States
 pub use Rattle.span_tracing_steps.specs.Steps
 pub use Rattle.span_tracing_steps.specs.TraceInvariant
 pub use Rattle.span_tracing_outputs.specs.LayerAgreement
+pub use Rattle.span_tracing_outputs.specs.OutputFilters
 pub use Rattle.span_tracing_outputs.specs.OutputFolds
 pub use Rattle.span_tracing_outputs.specs.OutputMachines
 pub use Rattle.span_tracing_outputs.specs.OutputNotices
@@ -47,17 +52,20 @@ pub use Rattle.span_tracing_outputs.specs.files.OpenedStack
 pub use Rattle.span_tracing_outputs.specs.files.OutputSpecs
 pub use Rattle.span_tracing_outputs.specs.files.Settings
 pub use Rattle.span_tracing_outputs.specs.files.Threads
+pub use Rattle.span_tracing_outputs.specs.sinks.AnySinks
 pub use Rattle.span_tracing_outputs.specs.sinks.Fates
 pub use Rattle.span_tracing_outputs.specs.sinks.LinesInFiles
 pub use Rattle.span_tracing_outputs.specs.sinks.OutputRuns
 pub use Rattle.span_tracing_outputs.specs.sinks.QueueFiles
 pub use Rattle.span_tracing_outputs.specs.sinks.Routed
 pub use Rattle.span_tracing_outputs.specs.sinks.Runs as SinkRuns
+pub use Rattle.span_tracing_outputs.specs.sinks.SinkCalls
 pub use Rattle.span_tracing_outputs.specs.sinks.SinkTurns
 pub use Rattle.span_tracing_outputs.specs.sinks.Takes
 pub use Rattle.span_tracing_outputs.specs.declared.files.output_spec.OutputSpec
 pub use Rattle.span_tracing_outputs.specs.declared.sinks.sink.RollingSink
 pub use Rattle.span_tracing_laws.specs.json_runs.JsonRuns
+pub use Rattle.span_tracing_laws.specs.queue_steps.SinkPlaces
 pub use Rattle.span_tracing_laws.specs.runs.AnySteps as AnyStepLaws
 pub use Rattle.span_tracing_laws.specs.runs.DrivenSinks
 pub use Rattle.span_tracing_laws.specs.runs.Files
