@@ -1,4 +1,4 @@
-//! Callers of the crates, one file for each way of use, to copy from. Each contract says what its caller gets.
+//! Callers of the crates, one file for each way of use, to copy from. Each contract says what its caller gets; that of the service is empty.
 #![tactic(auto)]
 
 pub mod boxed;

@@ -6,6 +6,7 @@ ghost use Rattle.tracing_core.specs.Metadata.{plain_metadata};
 
 mod clocked;
 mod json;
+mod service;
 mod skipped;
 mod two_stacks;
 
