@@ -145,10 +145,12 @@ def parts_of(owner):
 
 def whole_names(owner):
     """Returns the names that Rattle gives an impl by all words of its type and of its trait, in small letters, with its parameters and without: for
-    `impl From<Level> for LevelFilter` it is `LevelFilterFromLevel`, and for `impl<L> Layered<L, Registry>` it is `Layered+L+Registry`."""
+    `impl From<Level> for LevelFilter` it is `LevelFilterFromLevel`, for `impl<L> Layered<L, Registry>` it is `Layered+L+Registry`, and for
+    `impl<'v, T: Value> Lend<'v> for &'v T` it is `RefLend`."""
     trait, _, kind, parameters = parts_of(owner)
     words = [it for it in re.findall(r"'?\w+", re.sub(r"\w+::", "", f"{kind} {trait}")) if not it.startswith("'")]
-    return {"".join(words).lower(), "".join(it for it in words if it not in parameters).lower()}
+    found = {"".join(words).lower(), "".join(it for it in words if it not in parameters).lower()}
+    return found | ({f"ref{it}" for it in found} if kind.strip().startswith("&") else set())
 
 
 def kind_and_trait(owner):

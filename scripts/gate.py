@@ -347,6 +347,7 @@ def run(how, top):
         gate.failed += [f"case file {it} (a case has a file .in and a file .out)" for it in cases.sorted_out()[1]]
         gate.count(not shown_nowhere(), f"{', '.join(shown_nowhere())}: shows code that stands in no example")
         gate.count(not promises.stale(), f"{', '.join(promises.stale())}: stale, run scripts/promises.py")
+        gate.count(not promises.untold(), f"{', '.join(promises.untold())}: in no table of promises")
         if not refused:
             print(f"gate: {processors()} tasks side by side; {lanes.room_left()}", flush=True)
             lanes.run(gate.quick_tasks() if how.quick else gate.tasks(), processors(), gate.ended)

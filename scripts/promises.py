@@ -24,6 +24,8 @@ MEMBERS = {
     "span_tracing": ["span_tracing_skeleton", "span_tracing_shared", "span_tracing_steps", "span_tracing_outputs", "span_tracing_laws", "span_tracing"],
     "The programs": ["span_trace", "span_trace_bench"],
 }
+# Crates without a table: their functions are callers.
+APART = ["examples", "uses"]
 # A function of the source: the type or trait that it stands in, its name, its documentation, and its clauses, each with the comment above it.
 Function = collections.namedtuple("Function", "owner name doc clauses")
 Clause = collections.namedtuple("Clause", "name comment")
@@ -69,7 +71,7 @@ def functions(file):
             if is_public and clauses:
                 found.append(Function(owner, item[3], sentence(doc) or asked, clauses))
             doc = []
-        elif line.strip() and not line.strip().startswith("#"):
+        elif line.strip() and not line.strip().startswith(("#", "//")):
             doc = []
         at += 1
     return found
@@ -164,19 +166,31 @@ def replaced(text, name, made):
 
 def wanted():
     """Returns each document that there is, as it has to be."""
-    made = {PROMISES: ("promises", tables), ARCHITECTURE: ("crates", crates_table)}
-    return {file: replaced(text_of(file), name, call()) for file, (name, call) in made.items() if os.path.isfile(f"{TOP}/{file}")}
+    return {file: replaced(text_of(file), name, call()) for file, (name, call) in MADE.items() if os.path.isfile(f"{TOP}/{file}")}
 
 
 def stale():
-    """Returns the documents that aren't as they have to be."""
-    return [file for file, text in wanted().items() if text_of(file) != text]
+    """Returns the documents that aren't as they have to be. A repository with a README has both."""
+    missing = [it for it in MADE if os.path.isfile(f"{TOP}/README.md") and not os.path.isfile(f"{TOP}/{it}")]
+    return missing + [file for file, text in wanted().items() if text_of(file) != text]
 
+
+def untold():
+    """Returns what the tables of promises lack: crates that stand in no part, and functions of which nothing is said."""
+    if not os.path.isfile(f"{TOP}/{PROMISES}"):
+        return []
+    listed = [it.split(":")[0].split()[0] for it in text_of("crates.txt").split("\n") if ":" in it and not it.startswith("#")]
+    parts = [it for crates in MEMBERS.values() for it in crates]
+    found = [row for crate in parts for file in sources(crate) for it in functions(file) for row in rows(it)]
+    return sorted({*listed} - {*parts, *APART}) + [name for name, what, _ in found if not what]
+
+
+MADE = {PROMISES: ("promises", tables), ARCHITECTURE: ("crates", crates_table)}
 
 if __name__ == "__main__":
     if sys.argv[1:] == ["--check"]:
-        bad = stale()
-        print("\n".join(f"{it} is stale: run scripts/promises.py" for it in bad) or "promises: as they have to be")
+        bad = [f"{it} is stale: run scripts/promises.py" for it in stale()] + [f"nothing is said of {it}" for it in untold()]
+        print("\n".join(bad) or "promises: as they have to be")
         sys.exit(1 if bad else 0)
     if sys.argv[1:]:
         sys.exit(__doc__)

@@ -119,6 +119,8 @@ FAULTS = [
     ("an edit does not read", {f"{EDITS}/odd.edit": "file: src/lib.rt\nold:     x + 1\nnew:     nothing_of_this_name\n"}, "low", "BAD EDIT"),
     ("an edit has no ending", {f"{EDITS}/odd.txt": "nothing\n"}, "low", "an edit's name ends in .edit"),
     ("a table is stale", {"docs/ARCHITECTURE.md": "<!-- crates: made by scripts/promises.py -->\n\n<!-- end -->\n"}, "low", "docs/ARCHITECTURE.md: stale"),
+    ("a table of promises is stale", {"docs/PROMISES.md": "<!-- promises: made by scripts/promises.py -->\n\n| old |\n\n<!-- end -->\n"}, "low", "docs/PROMISES.md: stale"),
+    ("a document is missing", {"README.md": "nothing\n"}, "low", "docs/PROMISES.md, docs/ARCHITECTURE.md: stale"),
     ("a README shows code that stands nowhere", {"README.md": "```rust\nlet nothing = 1;\n```\n"}, "low", "README.md: shows code"),
     ("files are not laid out", instead(LIB, "    x + 1\n", "  x + 1\n"), "low", "rt fmt"),
     ("a handle is taken", before_tests("pub fn start() {\n    let _ = std::thread::spawn;\n}"), "low", "HANDLES does not allow"),
