@@ -1,4 +1,5 @@
-//! Callers of the crates, one file for each way of use, to copy from. Each contract says what its caller gets; that of the service is empty.
+//! Callers of the crates, one file for each way of use, to copy from. Each contract says what its caller gets; that of the service is
+//! empty.
 #![tactic(auto)]
 
 pub mod boxed;
