@@ -120,6 +120,7 @@ FAULTS = [
     ("an edit has no ending", {f"{EDITS}/odd.txt": "nothing\n"}, "low", "an edit's name ends in .edit"),
     ("a table is stale", {"docs/ARCHITECTURE.md": "<!-- crates: made by scripts/promises.py -->\n\n<!-- end -->\n"}, "low", "docs/ARCHITECTURE.md: stale"),
     ("a table of promises is stale", {"docs/PROMISES.md": "<!-- promises: made by scripts/promises.py -->\n\n| old |\n\n<!-- end -->\n"}, "low", "docs/PROMISES.md: stale"),
+    ("a crate is in no table of promises", {"docs/PROMISES.md": "<!-- promises: made by scripts/promises.py -->\n\n<!-- end -->\n"}, "low", "app, low: in no table of promises"),
     ("a document is missing", {"README.md": "nothing\n"}, "low", "docs/PROMISES.md, docs/ARCHITECTURE.md: stale"),
     ("a README shows code that stands nowhere", {"README.md": "```rust\nlet nothing = 1;\n```\n"}, "low", "README.md: shows code"),
     ("files are not laid out", instead(LIB, "    x + 1\n", "  x + 1\n"), "low", "rt fmt"),
