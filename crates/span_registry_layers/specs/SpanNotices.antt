@@ -1,5 +1,5 @@
 -- What outputs are told of spans.
-use Rattle.std.specs.Prelude.{◌≡◌, ◌&&◌, ℕ, Bool, true, false, List, [], ◌∷◌, Option, Some, is_some}
+use Rattle.std.specs.Prelude.{◌≡◌, ◌&&◌, ℕ, Bool, true, false, List, [], ◌∷◌, map, Option, Some, is_some}
 use Rattle.tracing_core_moments.specs.declared.at.At.{At}
 use Rattle.span_registry_layers_store.specs.RegistryCalls.{ClosesNext}
 use Rattle.span_registry_layers_store.specs.Registries.{RegistryValue}
@@ -16,6 +16,10 @@ use Rattle.span_registry_layers.specs.declared.output_slot.OutputSlot.{OutputSlo
 -- an output sees an open span that its filter passed when it was made
 abbrev pub sees : {O : Type 0} → RegistryValue → ℕ → OutputSlot O → Bool
 sees x id row = is_some (seen x (Some row.id.index) id)
+
+-- of each output, in order, whether it sees the span
+abbrev pub each_sees : {O : Type 0} → RegistryValue → ℕ → List (OutputSlot O) → List Bool
+each_sees x id rows = map (λ row. sees x id row) rows
 
 abbrev pub with_output : {L F : Type 0} → F → L → OutputSlot (Filtered L F) → OutputSlot (Filtered L F)
 with_output filter layer row = record row { output = record row.output { layer = layer; filter = filter } }

@@ -44,3 +44,4 @@ pub mod IndexedSlots
 pub mod SpanRows
 pub mod SpanLoans
 pub mod FilterBits
+pub mod RegistryCopies

@@ -16,6 +16,9 @@ pub mod OutputSinkPairs
 pub mod CallsWithoutNotices
 pub mod HandedLines
 pub mod SpanAnswers
+pub mod VerdictLists
+pub mod OutputNumbers
+pub mod SeenSpans
 pub mod TraceFollows
 pub mod OutputsWithoutNotices
 pub mod StackReadiness

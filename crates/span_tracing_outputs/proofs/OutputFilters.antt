@@ -18,7 +18,7 @@ use Rattle.span_tracing_outputs.specs.OutputFolds.{EachAgrees, Numbered}
 use Rattle.span_tracing_outputs.specs.OutputSettings.{changed_at}
 use Rattle.span_tracing_outputs.specs.SinkLines.{NoLines}
 use Rattle.span_tracing_outputs.specs.StackFollows.{LinedStack}
-use Rattle.span_tracing_outputs.specs.TraceFollows.{IsReady}
+use Rattle.span_tracing_outputs.specs.TraceFollows.{AreFirst, IsReady, numbers_in}
 use Rattle.span_tracing_outputs.specs.TraceStacks.{IsAtRest, TraceStackValue}
 use Rattle.span_tracing_outputs.specs.Turns.{AreDistinct, Lined, keys_of}
 use Rattle.span_tracing_outputs.proofs.OutputSettings.{count_set, none_set, some_set}
@@ -32,6 +32,11 @@ module _ {N E F : Type 0} (filter : F) where
   keys_stay place [] = refl
   keys_stay zero (row ∷ rows) = refl
   keys_stay (suc place) (row ∷ rows) = ap (λ (ks : List ℕ). row.output.layer.config.key.0 ∷ ks) (keys_stay place rows)
+
+  numbers_stay : (place : ℕ) (rows : List (Lined N E F)) → numbers_in (with_filter_at place rows) ≡ numbers_in rows
+  numbers_stay place [] = refl
+  numbers_stay zero (row ∷ rows) = refl
+  numbers_stay (suc place) (row ∷ rows) = ap (λ (ns : List ℕ). row.id.index ∷ ns) (numbers_stay place rows)
 
   no_lines_stay : (place : ℕ) (rows : List (Lined N E F)) → NoLines rows → NoLines (with_filter_at place rows)
   no_lines_stay place [] none = none
@@ -99,6 +104,8 @@ module _ {N E F : Type 0} (g : FilterGhosts F) (place : ℕ) (filter back : F) w
     valid = swapped_valid x.stack y.stack swap.0 ready.valid own;
     sound = subst IsSound (sym (swapped_spans x.stack y.stack swap.0)) ready.sound;
     keys = subst AreDistinct (sym (ap keys_of (swapped_rows x.stack y.stack swap.0) ∙ keys_stay filter place x.stack.rows)) ready.keys;
+    numbers = subst AreFirst (sym (ap numbers_in (swapped_rows x.stack y.stack swap.0) ∙ numbers_stay filter place x.stack.rows))
+        ready.numbers;
     rest = subst (λ (sinks : List S). IsAtRest y.stack sinks) (sym swap.1) (swapped_rest x.stack y.stack x.sinks swap.0 ready.rest);
   }
 

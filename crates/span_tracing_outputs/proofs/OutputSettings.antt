@@ -15,7 +15,7 @@ use Rattle.span_tracing_outputs.specs.OutputFolds.{EachAgrees, Numbered, RowAgre
 use Rattle.span_tracing_outputs.specs.OutputSettings.{changed_at, config_set, layer_set, lined_set, out_set, outs_set, row_set, set_filters}
 use Rattle.span_tracing_outputs.specs.OutputSettings.{stack_set}
 use Rattle.span_tracing_outputs.specs.SinkLines.{NoLines}
-use Rattle.span_tracing_outputs.specs.TraceFollows.{IsReady}
+use Rattle.span_tracing_outputs.specs.TraceFollows.{AreFirst, IsReady, numbers_in}
 use Rattle.span_tracing_outputs.specs.TraceStacks.{IsAtRest, TraceStackValue}
 use Rattle.span_tracing_outputs.specs.StackFollows.{LinedStack}
 use Rattle.span_tracing_outputs.specs.Turns.{AreDistinct, Lined, Lines, keys_of, own}
@@ -81,13 +81,20 @@ module _ {N E F : Type 0} (n : Ghosts N) (line_of : E → Settings → PlainCont
   each_agrees x zero setting (row ∷ rows) (o ∷ outs) a = (row_agrees x setting row o a.0, a.1)
   each_agrees x (suc place) setting (row ∷ rows) (o ∷ outs) a = (a.0, each_agrees x place setting rows outs a.1)
 
--- the keys stay, and no output keeps a line
+-- the keys and the numbers stay, and no output keeps a line
 keys_stay : {N E F : Type 0} (place : ℕ) (setting : Setting) (rows : List (Lined N E F)) →
     keys_of (changed_at place (row_set setting) rows) ≡ keys_of rows
 keys_stay place setting [] = refl
 keys_stay zero (Ansi on) (row ∷ rows) = refl
 keys_stay zero (SpanEvents moments) (row ∷ rows) = refl
 keys_stay (suc place) setting (row ∷ rows) = ap (λ (ks : List ℕ). row.output.layer.config.key.0 ∷ ks) (keys_stay place setting rows)
+
+numbers_stay : {N E F : Type 0} (place : ℕ) (setting : Setting) (rows : List (Lined N E F)) →
+    numbers_in (changed_at place (row_set setting) rows) ≡ numbers_in rows
+numbers_stay place setting [] = refl
+numbers_stay zero (Ansi on) (row ∷ rows) = refl
+numbers_stay zero (SpanEvents moments) (row ∷ rows) = refl
+numbers_stay (suc place) setting (row ∷ rows) = ap (λ (ns : List ℕ). row.id.index ∷ ns) (numbers_stay place setting rows)
 
 no_lines_stay : {N E F : Type 0} (place : ℕ) (setting : Setting) (rows : List (Lined N E F)) → NoLines rows →
     NoLines (changed_at place (row_set setting) rows)
@@ -110,5 +117,6 @@ set_ready {F = F} g x place setting ready = record {
       (sym (set_filters place setting x.stack.rows)) ready.valid;
   sound = ready.sound;
   keys = subst AreDistinct (sym (keys_stay place setting x.stack.rows)) ready.keys;
+  numbers = subst AreFirst (sym (numbers_stay place setting x.stack.rows)) ready.numbers;
   rest = at_rest_stays x.stack x.sinks place setting ready.rest;
 }

@@ -22,13 +22,14 @@ use Rattle.span_tracing_outputs.specs.SinkLines.{NoLines}
 use Rattle.span_tracing_outputs.specs.OutputMachines.{PlainLine}
 use Rattle.span_tracing_outputs.specs.BufferedLines.{TakesLine}
 use Rattle.span_tracing_outputs.specs.StackFollows.{LinedStack}
-use Rattle.span_tracing_outputs.specs.TraceFollows.{IsReady}
+use Rattle.span_tracing_outputs.specs.TraceFollows.{AreFirst, IsReady, numbers_in}
 use Rattle.span_tracing_outputs.specs.TraceStacks.{LeavesSinks, ThenHandsOver, TraceMoves, TraceStackValue}
 use Rattle.span_tracing_outputs.specs.TraceSteadiness.{trace_stays}
 use Rattle.span_tracing_outputs.specs.Turns.{AreDistinct, Lined, Lines, keys_of}
 use Rattle.span_tracing_outputs.proofs.OutputSinkPairs.{hands_paired, moves_keys, moves_length}
 use Rattle.span_tracing_outputs.proofs.CallsWithoutNotices.{dispatch_same}
 use Rattle.span_tracing_outputs.proofs.HandedLines.{keys_cleared}
+use Rattle.span_tracing_outputs.proofs.OutputNumbers.{numbers_cleared, numbers_moved}
 
 equal_self : (a : ℕ) → (a == a) ≡ true
 equal_self a = grind (arith, nat_tests)
@@ -50,15 +51,18 @@ module _ {N E F S : Type 0} (n : Ghosts N) (line_of : E → Settings → PlainCo
       ap (λ (key : ℕ). key ∷ keys_of ms) own ∙ ap (λ (ks : List ℕ). l.output.layer.config.key.0 ∷ ks) (same_keys ls ms w.1)
 
   module _ (says : (layer : Lines N E) (t : notices.Notice) (later : Lines N E) → h.told layer t later →
-      LayerTold n line_of TakesLine layer t later) (sound : StackStaysSound g h) where
+      LayerTold n line_of TakesLine layer t later) (sound : StackStaysSound g h)
+      (unnumbered : (layer : Lines N E) → h.numbers layer ≡ []) where
     handed_ready : (at : At) (x : TraceStackValue N E F S) (c : Call) (r : ReplyTo c) (y : TraceStackValue N E F S) → IsReady g x →
         TraceMoves g h takes x c r y → ThenHandsOver g h takes at x c r y → IsReady g y
     handed_ready at x c r y ready moves w =
         let left = sym w.2.1 in
-        let keys = keys_cleared w.0.rows ∙ same_keys x.stack.rows w.0.rows (moves_keys g h x.stack c r w.0 w.1) in record {
+        let keys = keys_cleared w.0.rows ∙ same_keys x.stack.rows w.0.rows (moves_keys g h x.stack c r w.0 w.1) in
+        let numbers = numbers_cleared w.0.rows ∙ numbers_moved g h unnumbered x.stack c r w.0 w.1 in record {
           valid = (trace_stays g h takes x c r y moves ready.valid).0;
           sound = subst (λ (s : LinedStack N E F). IsSound s.registry) left (sound x.stack c r w.0 w.1 ready.sound);
           keys = subst (λ (s : LinedStack N E F). AreDistinct (keys_of s.rows)) left (subst AreDistinct (sym keys) ready.keys);
+          numbers = subst (λ (s : LinedStack N E F). AreFirst (numbers_in s.rows)) left (subst AreFirst (sym numbers) ready.numbers);
           rest = hands_paired takes at w.0 x.sinks y.stack y.sinks w.2 (ready.rest.0 ∙ sym (moves_length g h x.stack c r w.0 w.1));
         }
 
@@ -68,6 +72,7 @@ module _ {N E F S : Type 0} (n : Ghosts N) (line_of : E → Settings → PlainCo
       valid = (trace_stays g h takes x c r y moves ready.valid).0;
       sound = sound x.stack c r y.stack w.0 ready.sound;
       keys = subst (λ (ls : List (Lined N E F)). AreDistinct (keys_of ls)) (sym rows) ready.keys;
+      numbers = subst (λ (ls : List (Lined N E F)). AreFirst (numbers_in ls)) (sym rows) ready.numbers;
       rest = (ap length w.1 ∙ ready.rest.0 ∙ sym (ap length rows), subst NoLines (sym rows) ready.rest.1);
     }
 

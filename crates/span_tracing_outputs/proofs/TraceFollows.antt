@@ -36,6 +36,7 @@ use Rattle.span_tracing_outputs.specs.TraceFollows.{CloseIf, EventIf, IsReady, R
 use Rattle.span_tracing_outputs.specs.TraceFollows.{TraceGoes, numbers_in, verdicts_from}
 use Rattle.span_tracing_outputs.specs.TraceStacks.{TraceMoves, TraceStackValue}
 use Rattle.span_tracing_outputs.specs.Turns.{Lined, Lines}
+use Rattle.span_tracing_outputs.proofs.SeenSpans.{seen_made}
 use Rattle.span_tracing_outputs.proofs.SpanAnswers.{asks_answer}
 use Rattle.span_tracing_outputs.proofs.CallsWithoutNotices.{clones_agree, dispatch_same, follows_same}
 use Rattle.span_tracing_outputs.proofs.HandedLines.{event_goes, hands_same, same_value, step_goes}
@@ -156,6 +157,8 @@ module _ {N E F S : Type 0} (n : Ghosts N) (line_of : E → Settings → PlainCo
                   goes_so.0,
                   goes_so.1,
                   step_goes n line_of g takes at (span_told wide at (Made a) k.next_id) wide x y mid goes_so.2 over,
+                  seen_made n line_of g a at x.stack mid y.stack answer.0 (span_told wide at (Made a) k.next_id) id ready.numbers
+                      ready.sound answer.1 goes_so.1 goes_so.2 over.1,
                 )
             made (Err e, z, gives, rest) =
                 let answer = asks_answer g h unnumbered a.metadata at x.stack.registry all_pass false x.stack.rows w.0 true w.1 in

@@ -1,5 +1,5 @@
 -- What a call of a stack with sinks makes of its output machines, and what its sinks take.
-use Rattle.std.specs.Prelude.{◌≡◌, ℕ, Bool, true, false, List, [], ◌∷◌, map, Option, Some, None, Result, Ok, Err, slice_set}
+use Rattle.std.specs.Prelude.{◌≡◌, ◌≤◌, ℕ, Bool, true, false, List, [], ◌∷◌, length, map, Option, Some, None, Result, Ok, Err, slice_set}
 use Rattle.std.specs.List.{list_any}
 use Rattle.tracing_core_fields.specs.PlainMetadata.{PlainMetadata}
 use Rattle.tracing_core_fields.specs.requests.Calls.{Call, ReplyTo, DispatchRegistered, CallsiteRegistered, Asked, HintAsked, SpanMade}
@@ -17,6 +17,7 @@ use Rattle.span_registry_layers_store.specs.Laws.{IsSound}
 use Rattle.span_registry_layers_store.specs.Registries.{RegistryValue, knows, swept, with_entry, without_entry, without_handle}
 use Rattle.span_registry_layers_store.specs.Verdicts.{all_pass}
 use Rattle.span_registry_layers_layers.specs.Combined.{Then}
+use Rattle.span_registry_layers_layers.specs.FilterNumbers.{numbers_from}
 use Rattle.span_registry_layers_layers.specs.FilterViews.{View}
 use Rattle.span_registry_layers_layers.specs.declared.filter.Filter.{Ghosts as FilterGhosts}
 use Rattle.span_registry_layers_layers.specs.declared.layer.Layer.{Ghosts as LayerGhosts}
@@ -24,6 +25,7 @@ use Rattle.span_registry_layers.specs.CommonAnswers.{CommonInterest, common_hint
 use Rattle.span_registry_layers.specs.CacheValidity.{CacheIsValid}
 use Rattle.span_registry_layers.specs.Calls.{AllRefuse, current_in, over}
 use Rattle.span_registry_layers.specs.OutputSlots.{Afresh, filters_of, marked, view_of}
+use Rattle.span_registry_layers.specs.SpanNotices.{each_sees}
 use Rattle.span_registry_layers.specs.Stacks.{PassesAsked, Registers, cleared, with_hint}
 use Rattle.event_formatter_text.specs.declared.format_fields.FormatFields.{Ghosts}
 use Rattle.event_formatter_text.specs.declared.settings.Settings.{Settings}
@@ -54,6 +56,10 @@ untold number = []
 abbrev pub numbers_in : {N E F : Type 0} → List (Lined N E F) → List ℕ
 numbers_in [] = []
 numbers_in (row ∷ rows) = row.id.index ∷ numbers_in rows
+
+-- numbers are the first ones, in order, and a verdict is kept for each
+abbrev pub AreFirst : List ℕ → Type 0
+AreFirst ns = (ns ≡ numbers_from 0 (length ns)) × (length ns ≤ 64)
 
 -- verdicts with an answer under each number
 abbrev pub verdicts_from : List Bool → List ℕ → List Bool → List Bool
@@ -88,12 +94,13 @@ module _ {N E F : Type 0} (g : FilterGhosts F) where
   EachAsked e at x rows passed told = ⊥
 
 module _ {N E F S : Type 0} (g : FilterGhosts F) where
-  -- what is kept of the filters' answers is right, the registry is sound, no two layers have the same key, each output has its sink, and
-  -- none keeps a line
+  -- what is kept of the filters' answers is right, the registry is sound, no two layers have the same key, the outputs' filters have the
+  -- first numbers, each output has its sink, and none keeps a line
   pub record IsReady (x : TraceStackValue N E F S) : Type 0 where
     pub valid : CacheIsValid g x.stack
     pub sound : IsSound x.stack.registry
     pub keys : AreDistinct (keys_of x.stack.rows)
+    pub numbers : AreFirst (numbers_in x.stack.rows)
     pub rest : IsAtRest x.stack x.sinks
 
 module _ {N E F S : Type 0} (n : Ghosts N) (line_of : E → Settings → PlainContext → PlainEvent → Option (List ℕ)) (g : FilterGhosts F)
@@ -138,7 +145,8 @@ module _ {N E F S : Type 0} (n : Ghosts N) (line_of : E → Settings → PlainCo
   TakenUnless refusal (Ok done) x goes y = (refusal ≡ None) × goes
   TakenUnless refusal (Err e) x goes y = RefusedBy refusal e × (y ≡ x)
 
-  -- the filters answer of a span, and some passes it: it has the next id, and those outputs are told of it whose filter passed it
+  -- the filters answer of a span, and some passes it: it has the next id, and those outputs are told of it, and see it, whose filter
+  -- passed it
   abbrev pub MadeGoes : PlainAttributes → At → TraceStackValue N E F S → ℕ → TraceStackValue N E F S → Type 0
   MadeGoes a at x id y =
       let k = bare x.stack.registry in
@@ -146,6 +154,7 @@ module _ {N E F S : Type 0} (n : Ghosts N) (line_of : E → Settings → PlainCo
       (span_refusal x.stack.registry a.parent ≡ None) × (id ≡ k.next_id)
       × (let made = made_in n line_of g k a at (verdicts_from all_pass (numbers_in x.stack.rows) passed) in
       StepGoes at (call_lists (span_told made at (calls.Made a) k.next_id)) made x y)
+      × (each_sees y.stack.registry id y.stack.rows ≡ passed)
 
   -- a handle goes, and then the closes are told; where there is none all stays
   abbrev pub CloseIf : Option RequestError → ℕ → At → TraceStackValue N E F S → Bool → TraceStackValue N E F S → Type 0

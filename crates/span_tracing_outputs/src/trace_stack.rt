@@ -1,6 +1,8 @@
 //! A stack whose outputs have sinks, as a subscriber.
-ghost use Rattle.std.specs.Prelude.{◌≡◌, IfOk, IsTrue, length, nat_eq, true};
+ghost use Rattle.std.specs.Prelude.{◌≡◌, ◌≤◌, ◌++◌, IfOk, IsTrue, length, nat_eq, take, true};
+ghost use Rattle.span_registry_layers_store.specs.Verdicts.{all_pass};
 ghost use Rattle.span_registry_layers.specs.CacheValidity.{CacheIsValid};
+ghost use Rattle.span_registry_layers.specs.SpanNotices.{each_sees};
 ghost use Rattle.span_registry_layers.specs.Stacks.{cleared, is_above};
 ghost use Rattle.span_tracing_outputs.specs.TraceStacks.{IsAtRest, NewGives};
 
@@ -69,6 +71,19 @@ fn has_exactly<O>(stack: &Stack<O>, count: usize) -> bool
     }
 }
 
+// Of each of the first outputs of a stack, whether it sees a span.
+fn seen_in<O>(stack: &Stack<O>, span: &Id) -> [bool; 64]
+    ensures exact { result ≡ take 64 (each_sees stack.now.registry span.now stack.now.rows ++ all_pass) }
+    ensures outputs { length stack.now.rows ≤ 64 → take (length stack.now.rows) result
+        ≡ each_sees stack.now.registry span.now stack.now.rows }
+{
+    let mut seen = [true; 64];
+    for place in 0..64 {
+        seen[place] = stack.sees(place, span).unwrap_or(true);
+    }
+    seen
+}
+
 impl<N: FormatFields + Drop, E: FormatEvent, F: Filter, S> TraceStack<N, E, F, S> {
     /// Gives each output of a stack the sink at its place. Lines that outputs kept before are forgotten.
     ///
@@ -110,6 +125,19 @@ impl<N, E, F, S> TraceStack<N, E, F, S> {
             × (cleared self.now.stack ≡ self.now.stack) }
     {
         self.stack.ignores(level)
+    }
+
+    /// Of each output, by its place, whether it sees a span: the span is open, and the output's filter passed it when it was
+    /// made. Behind the last output each place has `true`, as a span's verdicts have where no filter has the number.
+    ///
+    /// Of a new span these are what the outputs' filters answered.
+    pub fn seen_by(&self, span: &Id) -> [bool; 64]
+        ensures exact { result ≡ take 64 (each_sees self.now.stack.registry span.now self.now.stack.rows ++ all_pass) }
+        // Where there are no more outputs, as in each stack that is ready, the first places tell of all of them.
+        ensures outputs { length self.now.stack.rows ≤ 64 → take (length self.now.stack.rows) result
+            ≡ each_sees self.now.stack.registry span.now self.now.stack.rows }
+    {
+        seen_in(&self.stack, span)
     }
 
     /// The sinks, each at the place of its output.

@@ -14,3 +14,4 @@ pub mod FullHandles
 pub mod FilterSwaps
 pub mod Asking
 pub mod Runs
+pub mod Tables

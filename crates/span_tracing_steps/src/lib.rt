@@ -15,8 +15,10 @@ mod settings;
 mod setup;
 mod sinks;
 mod spans;
+mod table;
 
 pub use action::{RecordRequest, Request};
 pub use callsite::TraceCallsite;
 pub use laws::cache_stays_valid;
 pub use parts::{Thread, TraceParts};
+pub use table::{GuardRow, StackTable, TraceTable};

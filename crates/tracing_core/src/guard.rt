@@ -19,6 +19,13 @@ impl DefaultGuard {
     {
         self.lane
     }
+
+    /// The default that the lane had before.
+    pub fn before(&self) -> LaneDefault
+        ensures { result ≡ self.now.before }
+    {
+        self.before
+    }
 }
 
 /// The guard is of another lane. It comes back.

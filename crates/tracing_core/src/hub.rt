@@ -28,7 +28,7 @@ mod taking;
 use callsites::Callsites;
 pub use index::CallsiteIndex;
 pub use indexed::RequestParent;
-pub use parts::{Lane, LaneDefault, RegisteredSubscriber};
+pub use parts::{Lane, LaneDefault, RegisteredCallsite, RegisteredSubscriber};
 use std::alloc::{AllocError, Global};
 use std::marker::Model;
 pub use table::{HandleCount, HubTable, KeptInterest};

@@ -13,7 +13,7 @@ pub use callsite::DefaultCallsite;
 pub use dispatch::Dispatch;
 pub use guard::{DefaultGuard, WrongLane};
 pub use hub::{
-    CallsiteIndex, HandleCount, Hub, HubTable, KeptInterest, Lane, LaneDefault,
+    CallsiteIndex, HandleCount, Hub, HubTable, KeptInterest, Lane, LaneDefault, RegisteredCallsite,
     RegisteredSubscriber, RequestParent,
 };
 pub use refusal::{

@@ -2,12 +2,13 @@
 ghost use Rattle.std.specs.Prelude.{◌≡◌, IfOk, IsTrue, length, slice_get, true};
 ghost use Rattle.std.specs.Option.{option_map};
 ghost use Rattle.span_registry_layers_store.specs.Copies.{CopyOf};
+ghost use Rattle.span_registry_layers.specs.SpanNotices.{sees};
 ghost use Rattle.span_registry_layers.specs.Stacks.{cleared, is_above};
 
 use crate::stack::Stack;
 use span_registry_layers_store::{Registry, RegistryTable};
 use std::alloc::AllocError;
-use tracing_core_fields::Level;
+use tracing_core_fields::{Id, Level};
 
 impl<O> Stack<O> {
     /// The spans and the entries of lanes.
@@ -65,6 +66,16 @@ impl<O> Stack<O> {
         match self.parts.rows.get(output) {
             None => None,
             Some(row) => Some(row.told),
+        }
+    }
+
+    /// Whether the output at this place sees a span: the span is open, and the output's filter passed it when it was made.
+    pub fn sees(&self, output: usize, span: &Id) -> Option<bool>
+        ensures { result ≡ option_map (λ row. sees self.now.registry span.now row) (slice_get self.now.rows output) }
+    {
+        match self.parts.rows.get(output) {
+            None => None,
+            Some(row) => Some(row.sees(span, &self.parts.registry)),
         }
     }
 

@@ -9,6 +9,7 @@ ghost use Rattle.tracing_core.specs.Indices.{index_of_callsite};
 ghost use Rattle.tracing_core.specs.ValidCaches.{HasValidCache};
 
 use crate::hub::Hub;
+use crate::hub::parts::RegisteredCallsite;
 use tracing_core_fields::{Callsite, Identifier, Interest, Metadata, Subscriber};
 use tracing_core_moments::At;
 
@@ -18,6 +19,13 @@ use tracing_core_moments::At;
 pub struct CallsiteIndex(pub(crate) usize);
 
 impl<S, C> Hub<S, C> {
+    /// The callsites, in order of registration.
+    pub fn callsites(&self) -> &[RegisteredCallsite<C>]
+        ensures { result.now ≡ self.now.callsites }
+    {
+        self.callsites.as_slice()
+    }
+
     /// Where the callsite with the identifier stands, for the calls that take its index. It is found in one
     /// step, however many callsites there are.
     pub fn index_of(&self, identifier: Identifier) -> Option<CallsiteIndex>

@@ -42,11 +42,25 @@ impl<S> RegisteredSubscriber<S> {
     {
         &self.subscriber
     }
+
+    /// Its number.
+    pub fn serial(&self) -> u64
+        ensures { result ≡ self.now.serial }
+    {
+        self.serial
+    }
+
+    /// How many handles and defaults lead to it.
+    pub fn handles(&self) -> u64
+        ensures { result ≡ self.now.handles }
+    {
+        self.handles
+    }
 }
 
-// A callsite. A contract sees what is kept of it.
+/// A callsite. A contract sees what is kept of it.
 #[derive(Drop)]
-pub(crate) struct RegisteredCallsite<C> {
+pub struct RegisteredCallsite<C> {
     pub(crate) callsite: C,
     pub(crate) identifier: u64,
     // the least verbose filter that passes the callsite's level
@@ -65,6 +79,15 @@ impl<C> Model for RegisteredCallsite<C> {
       level = row.level;
       interest = row.interest;
     } };
+}
+
+impl<C> RegisteredCallsite<C> {
+    /// The callsite itself.
+    pub fn callsite(&self) -> &C
+        ensures { result.now ≡ self.now.callsite }
+    {
+        &self.callsite
+    }
 }
 
 /// A default.

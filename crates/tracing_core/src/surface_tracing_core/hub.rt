@@ -38,6 +38,10 @@ fn surface_hub_tables(rt: HostRuntime) -> Result<(), Fail> {
     let copy = hub.table()?;
     assert!(rt; matches!(copy.global, LaneDefault::To(0)) && copy.lanes.len() == 1);
     assert!(rt; copy.handles.len() == 1 && copy.callsites.len() == 1);
+    let kept = hub.callsites().first().ok_or("a callsite")?;
+    assert_eq!(rt; kept.callsite().metadata().callsite(), Identifier(3));
+    let added = hub.subscribers().first().ok_or("a subscriber")?;
+    assert!(rt; added.serial() == 0 && added.handles() == 2);
     assert!(rt; hub.end_thread(lane)?.is_none() && hub.end_thread(lane).is_err());
     Ok(())
 }
@@ -53,6 +57,7 @@ fn surface_hub_handles(rt: HostRuntime) -> Result<(), Fail> {
     assert!(rt; hub.subscriber(&weak).is_some() && hub.subscribers().len() == 1);
     assert!(rt; hub.subscriber_mut(&weak).is_some());
     let guard = hub.set_default(lane, &first)?;
+    assert!(rt; matches!(guard.before(), LaneDefault::Unset) && guard.lane() == lane);
     let Err(WrongLane(guard)) = hub.reset(lane + 1, guard) else {
         panic!(&rt; "another lane took a guard");
     };

@@ -33,6 +33,8 @@ fn surface_span_calls(rt: HostRuntime) -> Result<(), Fail> {
     let span = make(&mut stack, "app", Level::DEBUG)?.ok_or("a span")?;
     let other = make(&mut stack, "app", Level::INFO)?.ok_or("a span")?;
     assert!(rt; was_told(&stack, 0, &[(Notification::Made, 2)]));
+    assert!(rt; stack.sees(0, &span) == Some(false) && stack.sees(1, &span) == Some(true));
+    assert!(rt; stack.sees(0, &other) == Some(true) && stack.sees(2, &other).is_none());
     let metadata = span_metadata("s", Level::DEBUG);
     stack.record(&span, &Record::new(no_values(&metadata)), PLACE)?;
     stack.record_follows_from(&other, &span, PLACE)?;
@@ -42,6 +44,7 @@ fn surface_span_calls(rt: HostRuntime) -> Result<(), Fail> {
     assert!(rt; matches!(stack.current_span(0), CurrentSpan::Outside));
     assert!(rt; stack.clone_span(&span)? == span && !stack.try_close(span, PLACE));
     assert!(rt; stack.try_close(span, PLACE) && stack.registry().is_open(&other));
+    assert!(rt; stack.sees(1, &span) == Some(false));
     let told = [
         (Notification::Made, 1),
         (Notification::Made, 2),

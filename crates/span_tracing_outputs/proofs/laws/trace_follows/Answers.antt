@@ -18,7 +18,8 @@ returns g c =
     no_dict in
     record {
       goes = goes n line_of f takes h c.stack_follows.ensures (λ layer t later told. told) (λ layer. refl);
-      ready = stays_ready n line_of f takes h (λ layer key. refl) (λ layer t later told. told) c.stack_registry_stays_sound.ensures.call;
+      ready = stays_ready n line_of f takes h (λ layer key. refl) (λ layer t later told. told) c.stack_registry_stays_sound.ensures.call
+          (λ layer. refl);
       same = λ x. record { sinks = refl; rows = refl; agreed = λ outs agrees. agrees };
       rests = rests_step n line_of f takes;
       numbers = numbers_agree n line_of f;
