@@ -1,4 +1,4 @@
-mod Machine
+mod Spans
 mod Runs
 mod Formats
 mod Texts

@@ -1,7 +1,3 @@
-mod NumbersInRange
 mod Outputs
-mod JsonLines
-mod QueueLines
-mod JsonQueueFiles
-mod JsonFiles
+mod Files
 mod Formats

@@ -8,6 +8,7 @@ pub mod RequestSteps
 pub mod SpanSteps
 pub mod HolderSteps
 pub mod StepFollows
+pub mod SpanMasks
 pub mod DrivenSinks
 pub mod AnySteps
 pub mod Runs

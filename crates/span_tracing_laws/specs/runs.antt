@@ -2,6 +2,7 @@ pub mod StepNotices
 pub mod StepSettings
 pub mod SwappedOutputs
 pub mod StepFollows
+pub mod SpanMasks
 pub mod KeptStacks
 pub mod DrivenSinks
 pub mod AnySteps

@@ -1,12 +1,18 @@
 //! What steps and runs of a trace make of its outputs and files, as laws.
 #![tactic(auto)]
 
+mod harmless;
 mod json;
 mod json_runs;
 mod queue_steps;
 mod runs;
 mod starved;
 
+pub use harmless::{
+    files_stay_harmless, formats_write_harmless_lines, harmless_formats_fill_files,
+    harmless_outputs_fill_files, harmless_outputs_run, harmless_runs_fill_files,
+    kept_texts_are_harmless, outputs_stay_harmless, timers_are_harmless,
+};
 pub use json::{
     files_hold_objects, json_format_writes_objects, json_outputs_offer_objects, lines_give_objects,
 };

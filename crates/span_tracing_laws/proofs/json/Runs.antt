@@ -1,21 +1,28 @@
 -- Lines of outputs of JSON.
-use Rattle.std.proofs.Common.{◌≡◌, ◌⊎◌, inl, inr, ℕ, Bool, true, false, List, [], ◌∷◌, Option, Some, None, IfSome, IsSome, refl, sym, subst}
-use Rattle.std.proofs.Common.{◌∙◌}
+use Rattle.std.proofs.Common.{◌≡◌, ◌⊎◌, inl, inr, ℕ, Bool, true, false, List, [], ◌∷◌, Option, Some, None, IfSome, IsSome, refl, sym, ap}
+use Rattle.std.proofs.Common.{subst}
 use Rattle.std.specs.List.{AllByRecursion}
 use Rattle.tracing_core_fields.specs.PlainMetadata.{PlainMetadata}
 use Rattle.tracing_core_fields.specs.requests.PlainRequests.{PlainEvent}
 use Rattle.span_registry_layers_store.specs.declared.slot.Timings.{Timings}
 use Rattle.event_formatter_text.specs.declared.format_fields.FormatFields.{Ghosts}
-use Rattle.event_formatter_lines.specs.JsonLaws.{IsObjectLine, ObjectsAreKept}
+use Rattle.event_formatter_text.specs.declared.settings.Settings.{Settings}
+use Rattle.event_formatter_lines.specs.JsonLaws.{IsObject, IsObjectLine, ObjectsAreKept}
+use Rattle.event_formatter.specs.formats.Contexts.{PlainContext}
 use Rattle.event_formatter.specs.fmt_layer.Lines.{fault_if, line_or_fault}
-use Rattle.span_tracing_outputs.specs.OutputMachines.{Call, Closed, Entered, Fate, Fated, Happened, Heard, Left, Made, OnSpan, PlainLine}
-use Rattle.span_tracing_outputs.specs.OutputMachines.{PlainOut, Recorded, Said, call_after, close_event, event_if, message_event, out_after}
-use Rattle.span_tracing_outputs.specs.OutputMachines.{out_run, said_after}
-use Rattle.span_tracing_laws.specs.json.Objects.{AreFormattedSaid, AreInRangeSaid, AreObjectLines, AreObjectsOrFaults, CanBeFormatted}
+use Rattle.event_formatter.specs.fmt_layer.Threads.{PlainLane}
+use Rattle.event_formatter.specs.declared.fmt_layer.layer.Config.{Config}
+use Rattle.span_tracing_outputs.specs.OutputMachines.{Fated, Happened, Heard, OnSpan, PlainLine, PlainOut, Said, close_event, context_of}
+use Rattle.span_tracing_outputs.specs.OutputMachines.{line_of_event, message_event, out_run}
+use Rattle.span_tracing_laws.specs.json.Objects.{AreFormattedSaid, AreInRange, AreInRangeSaid, AreObjectLines, AreObjectsOrFaults}
+use Rattle.span_tracing_laws.specs.json.Objects.{CanBeFormatted}
 use Rattle.span_tracing_laws.specs.json.Objects.{FormattedEventsLeaveObjects, IsEventInRange, IsFault, IsFormattedSaid, IsInRangeSaid}
-use Rattle.span_tracing_laws.specs.json.Objects.{IsJsonOut, IsMadeAs, IsPlaceInRange, JsonRuns, LinesAreObjectsOrFaults, StaysJson}
-use Rattle.span_tracing_laws.specs.json.Objects.{UntoldFaultsLeaveObjects, WritesObjects}
-use Rattle.span_tracing_laws.proofs.json.Machine.{Goes, Told, run_goes}
+use Rattle.span_tracing_laws.specs.json.Objects.{IsJsonOut, IsPlaceInRange, JsonRuns, KeepsJson, KeepsObjectsOf}
+use Rattle.span_tracing_laws.specs.json.Objects.{LinesAreObjectsOrFaults, StaysJson, UntoldFaultsLeaveObjects, WritesEach, WritesObjects}
+use Rattle.span_tracing_laws.specs.machines.Lines.{AreLines}
+use Rattle.span_tracing_laws.specs.machines.Said.{SaidIs}
+use Rattle.span_tracing_laws.proofs.json.Spans.{spans_well}
+use Rattle.span_tracing_laws.proofs.machines.Machine.{Goes, run_goes}
 
 -- what becomes of the line of an event
 abbrev IsRight : Bool → List ℕ → Type 0
@@ -59,33 +66,30 @@ any_lines : (lines : List PlainLine) → AllByRecursion (λ (line : PlainLine). 
 any_lines [] = tt
 any_lines (line ∷ lines) = (tt, any_lines lines)
 
--- how an output was made, and its format, stay
-made_again : {N : Type 0} (o p q : PlainOut N) → IsMadeAs o p → IsMadeAs p q → IsMadeAs o q
-made_again o p q a b = record { config = b.config ∙ a.config; format = b.format ∙ a.format }
+-- wherever it is heard
+abbrev Anywhere : Heard → Type 0
+Anywhere h = Unit {0}
+
+abbrev Both : PlainEvent → Type 0
+Both e = IsEventInRange e × CanBeFormatted e
+
+all_in_range : (ts : List Fated) → AreInRangeSaid ts → AllByRecursion (λ (t : Fated). Anywhere t.heard × IsInRangeSaid t.heard.said) ts
+all_in_range [] told = tt
+all_in_range (t ∷ ts) told = ((tt, told.0), all_in_range ts told.1)
+
+abbrev IsBothSaid : Said → Type 0
+IsBothSaid said = SaidIs IsPlaceInRange AreInRange Both said
+
+both_told : (said : Said) → IsInRangeSaid said → IsFormattedSaid said → IsBothSaid said
+both_told (OnSpan id m call) told formatted = told
+both_told (Happened e) told formatted = (told, formatted)
+
+all_both : (ts : List Fated) → AreInRangeSaid ts → AreFormattedSaid ts →
+    AllByRecursion (λ (t : Fated). Anywhere t.heard × IsBothSaid t.heard.said) ts
+all_both [] told formatted = tt
+all_both (t ∷ ts) told formatted = ((tt, both_told t.heard.said told.0 formatted.0), all_both ts told.1 formatted.1)
 
 module _ {N : Type 0} (n : Ghosts N) where
-  event_made : (o : PlainOut N) (asked : Bool) (p : PlainOut N) (h : Heard) (e : PlainEvent) (whole : Bool) → IsMadeAs o p →
-      IsMadeAs o (event_if n asked p h e whole)
-  event_made o true p h e whole made = record { config = made.config; format = made.format }
-  event_made o false p h e whole made = made
-
-  call_made : (call : Call) (o : PlainOut N) (h : Heard) (id : ℕ) (m : PlainMetadata) (f : Fate) → IsMadeAs o (call_after n call o h id m f)
-  call_made (Made a) o h id m f = event_made o o.config.span_events.new _ h _ f.line (record { config = refl; format = refl })
-  call_made (Recorded values) o h id m f = record { config = refl; format = refl }
-  call_made Entered o h id m f = event_made o o.config.span_events.enter _ h _ f.line (record { config = refl; format = refl })
-  call_made Left o h id m f = event_made o o.config.span_events.exit _ h _ f.line (record { config = refl; format = refl })
-  call_made Closed o h id m f = event_made o o.config.span_events.close _ h _ f.line (record { config = refl; format = refl })
-
-  said_made : (said : Said) (o : PlainOut N) (h : Heard) (f : Fate) → IsMadeAs o (said_after n said o h f)
-  said_made (OnSpan id m call) o h f = call_made call o h id m f
-  said_made (Happened e) o h f = record { config = refl; format = refl }
-
-  run_made : (o : PlainOut N) (ts : List Fated) → IsMadeAs o (out_run n o ts)
-  run_made o [] = record { config = refl; format = refl }
-  run_made o (t ∷ ts) =
-      let p = out_after n o t.heard t.fate in
-      made_again o p (out_run n p ts) (said_made t.heard.said o t.heard t.fate) (run_made p ts)
-
   -- the output's own events have values in range, and can be formatted
   message_in_range : (m : PlainMetadata) (id : ℕ) (message : List ℕ) → IsPlaceInRange m → IsEventInRange (message_event n m id message)
   message_in_range m id message place = (place, (tt, tt))
@@ -101,41 +105,44 @@ module _ {N : Type 0} (n : Ghosts N) where
   close_formatted m id None = refl
   close_formatted m id (Some timings) = refl
 
-  abbrev Both : PlainEvent → Type 0
-  Both e = IsEventInRange e × CanBeFormatted e
-
-  in_range_told : (said : Said) → IsInRangeSaid said → Told IsEventInRange said
-  in_range_told (OnSpan id m call) told = told
-  in_range_told (Happened e) told = told
-
-  all_in_range : (ts : List Fated) → AreInRangeSaid ts → AllByRecursion (λ (t : Fated). Told IsEventInRange t.heard.said) ts
-  all_in_range [] told = tt
-  all_in_range (t ∷ ts) told = (in_range_told t.heard.said told.0, all_in_range ts told.1)
-
-  both_told : (said : Said) → IsInRangeSaid said → IsFormattedSaid said → Told Both said
-  both_told (OnSpan id m call) told formatted = told
-  both_told (Happened e) told formatted = (told, formatted)
-
-  all_both : (ts : List Fated) → AreInRangeSaid ts → AreFormattedSaid ts → AllByRecursion (λ (t : Fated). Told Both t.heard.said) ts
-  all_both [] told formatted = tt
-  all_both (t ∷ ts) told formatted = (both_told t.heard.said told.0 formatted.0, all_both ts told.1 formatted.1)
+  -- made as an output of JSON, and with its settings and its format
+  record IsMade (o : PlainOut N) (config : Config N) (line_of : Settings → PlainContext → PlainEvent → Option (List ℕ))
+      (lanes : List PlainLane) : Type 0 where
+    pub format : WritesObjects line_of
+    pub fields : KeepsObjectsOf n config.fields
+    pub same_config : config ≡ o.config
+    pub same_format : line_of ≡ o.line_of
 
   module _ (objects : ObjectsAreKept) where
-    goes : (o : PlainOut N) (ts : List Fated) → AreInRangeSaid ts → IsJsonOut n o →
-        AreObjectsOrFaults o.config.log_internal_errors o.lines →
-        Goes n objects IsEventInRange (IsRight o.config.log_internal_errors) (out_run n o ts)
-    goes o ts told json all =
-        run_goes n objects IsEventInRange (IsRight o.config.log_internal_errors) message_in_range close_in_range o ts (all_in_range ts told)
-        (record {
-          offers = λ settings c e well is. line_is o.config.log_internal_errors e.metadata (o.line_of settings c e)
-              (json.format settings c e well is);
-          fields = json.fields;
-          kept = json.kept;
-          lines = all;
-        })
+    -- such a line is an object
+    object_is : (o p : PlainOut N) → IsMade o p.config p.line_of p.lanes → KeepsJson p → (h : Heard) (e : PlainEvent) → IsEventInRange e →
+        IfSome (p.line_of p.config.settings (context_of n p h) e) IsObjectLine
+    object_is o p made kept h e is = made.format p.config.settings (context_of n p h) e (spans_well objects p.kept h.loose kept) is
+
+    module _ (o : PlainOut N) (Q : PlainEvent → Type 0) (P : List ℕ → Type 0)
+        (offers : (p : PlainOut N) → IsMade o p.config p.line_of p.lanes → KeepsJson p → (h : Heard) → Anywhere h → (e : PlainEvent) → Q e →
+        IfSome (line_of_event n p h e) P)
+        (messages : (m : PlainMetadata) (id : ℕ) (message : List ℕ) → IsPlaceInRange m → Q (message_event n m id message))
+        (closes : (m : PlainMetadata) (id : ℕ) (timings : Option Timings) → IsPlaceInRange m → Q (close_event n m id timings)) where
+      goes : (ts : List Fated) → AllByRecursion (λ (t : Fated). Anywhere t.heard × SaidIs IsPlaceInRange AreInRange Q t.heard.said) ts →
+          IsJsonOut n o → AreLines P o.lines → Goes n (IsMade o) IsObject IsPlaceInRange AreInRange Anywhere Q P (out_run n o ts)
+      goes ts told json all =
+          run_goes n (IsMade o) IsObject IsPlaceInRange AreInRange Anywhere Q P offers (λ p made. made.fields.0 p.config.settings)
+          (λ p made fields values range is. made.fields.1 fields values range is) messages closes o ts told
+          (record {
+            made = record { format = json.format; fields = json.fields; same_config = refl; same_format = refl };
+            kept = json.kept;
+            lines = all;
+          })
 
     lines_are : LinesAreObjectsOrFaults n
-    lines_are o ts told json all = (goes o ts told json all).lines
+    lines_are o ts told json all =
+        (goes o IsEventInRange (IsRight o.config.log_internal_errors)
+        (λ p made kept h any e is.
+        subst (λ (tells : Bool). IfSome (line_of_event n p h e) (IsRight tells)) (ap (λ c. c.log_internal_errors) made.same_config)
+        (line_is p.config.log_internal_errors e.metadata (p.line_of p.config.settings (context_of n p h) e)
+        (object_is o p made kept h e is)))
+        message_in_range close_in_range ts (all_in_range ts told) json all).lines
 
     untold : UntoldFaultsLeaveObjects n
     untold o ts told json off all =
@@ -145,32 +152,21 @@ module _ {N : Type 0} (n : Ghosts N) where
 
     formatted : FormattedEventsLeaveObjects n
     formatted o ts told can json each all =
-        (run_goes n objects Both IsObjectLine (λ m id message place. (message_in_range m id message place, message_formatted m id message))
-        (λ m id timings place. (close_in_range m id timings place, close_formatted m id timings)) o ts
-        (all_both ts told can) (record {
-          offers = λ settings c e well is. formatted_is o.config.log_internal_errors e.metadata (o.line_of settings c e)
-              (each settings c e is.1) (json.format settings c e well is.0);
-          fields = json.fields;
-          kept = json.kept;
-          lines = all;
-        })).lines
+        (goes o Both IsObjectLine
+        (λ p made kept h any e is.
+        formatted_is p.config.log_internal_errors e.metadata (p.line_of p.config.settings (context_of n p h) e)
+        (subst WritesEach (sym made.same_format) each p.config.settings (context_of n p h) e is.1) (object_is o p made kept h e is.0))
+        (λ m id message place. (message_in_range m id message place, message_formatted m id message))
+        (λ m id timings place. (close_in_range m id timings place, close_formatted m id timings)) ts (all_both ts told can) json all).lines
 
     -- what it keeps, whatever its lines are
-    kept_goes : (o : PlainOut N) (ts : List Fated) → AreInRangeSaid ts → IsJsonOut n o →
-        Goes n objects IsEventInRange IsAny (out_run n o ts)
-    kept_goes o ts told json =
-        run_goes n objects IsEventInRange IsAny message_in_range close_in_range o ts (all_in_range ts told) (record {
-          offers = λ settings c e well is. any_line (line_or_fault o.config.log_internal_errors e.metadata (o.line_of settings c e));
-          fields = json.fields;
-          kept = json.kept;
-          lines = any_lines o.lines;
-        })
-
     stays : StaysJson n
     stays o ts told json =
-        let made = run_made o ts in
-        let goes = kept_goes o ts told json in
-        (record { format = subst WritesObjects (sym made.format) json.format; fields = goes.fields; kept = goes.kept }, made)
+        let went = goes o IsEventInRange IsAny (λ p made kept h any e is. any_line (line_of_event n p h e)) message_in_range close_in_range
+        ts (all_in_range ts told) json (any_lines o.lines) in (
+          record { format = went.made.format; fields = went.made.fields; kept = went.kept },
+          record { config = went.made.same_config; format = went.made.same_format },
+        )
 
     pub json_runs : JsonRuns n
     json_runs = record { stays = stays; lines = lines_are; untold = untold; formatted = formatted }

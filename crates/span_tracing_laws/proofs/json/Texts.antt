@@ -1,6 +1,6 @@
 -- Texts, and files, that hold one object of JSON on each line.
-use Rattle.std.proofs.Common.{◌≡◌, ◌≤◌, ◌<◌, ◌⊎◌, inl, inr, ◌==◌, ◌-◌, ℕ, Bool, true, false, if◌then◌else◌, cond, List, [], ◌∷◌, ◌++◌}
-use Rattle.std.proofs.Common.{length, get_or, take, codes, Option, Some, None, IfSome, unwrap_or, refl, sym, ap, subst, ◌∙◌, append_assoc}
+use Rattle.std.proofs.Common.{◌≡◌, ◌≤◌, ◌<◌, ◌==◌, ◌-◌, ℕ, false, if◌then◌else◌, List, [], ◌∷◌, ◌++◌}
+use Rattle.std.proofs.Common.{length, get_or, take, codes, refl, sym, ap, subst, ◌∙◌, append_assoc}
 use Rattle.std.proofs.Common.{arith}
 use Rattle.std.proofs.lemmas.Bool.Decides.{nat_tests}
 use Rattle.std.proofs.lemmas.Grind.{flat_map-append}
@@ -8,15 +8,13 @@ use Rattle.std.proofs.lemmas.List.{append-nil, length-append}
 use Rattle.std.proofs.lemmas.List.Elements.{All-cons, All-nil}
 use Rattle.std.proofs.Math.Seq.{get_or-append_seam}
 use Rattle.std.proofs.lemmas.List.Splits.{length-slice_split, slice_split_at}
-use Rattle.std.specs.List.{All, AllByRecursion, filter, flat_map, slice_split}
+use Rattle.std.specs.List.{All, AllByRecursion, flat_map, slice_split}
 use Rattle.std.specs.Str.Lines.{lines, lines_of_parts, strip_carriage_return}
 use Rattle.event_formatter_text.specs.IsJson.{IsJson, Value}
 use Rattle.event_formatter_lines.specs.JsonLaws.{IsObjectLine, JsonIsPrinted}
-use Rattle.tracing_appender_rolling.specs.Sinks.{Handed, Placed, PlainSink, file_text, is_in, lies_in, placed, was_opened}
-use Rattle.tracing_core_moments.specs.declared.moment.Moment.{Moment}
-use Rattle.tracing_core_moments.specs.Moments.{latest_of}
-use Rattle.span_tracing_laws.specs.json.Texts.{AreObjectsHanded, FilesHoldObjects, HoldsObjects, IsJsonObject, IsObjectLines}
+use Rattle.span_tracing_laws.specs.json.Texts.{FilesHoldObjects, HoldsObjects, IsJsonObject, IsObjectLines}
 use Rattle.span_tracing_laws.specs.json.Texts.{LinesGiveObjects}
+use Rattle.span_tracing_laws.proofs.machines.Files.{files_keep}
 
 -- a byte that is printed is no newline
 no_newline : (b : ℕ) → 32 ≤ b → (b == 10) ≡ false
@@ -104,51 +102,8 @@ behind one two (ones, a, first) (twos, b, second) = (
       sym (flat_map-append (λ line. line) ones twos),
 )
 
-handed_line : (line : List ℕ) → IsObjectLine line ⊎ (line ≡ []) → IsObjectLines line
-handed_line line (inl is) = (line ∷ [], (is, tt), sym (append-nil line))
-handed_line line (inr none) = subst IsObjectLines (sym none) none_at_all
-
-abbrev placed_text : List Placed → List ℕ
-placed_text xs = flat_map (λ (x : Placed). x.line) xs
-
-kept_behind : (passes : Bool) (x : Placed) (later : List Placed) → IsObjectLine x.line ⊎ (x.line ≡ []) → IsObjectLines (placed_text later) →
-    IsObjectLines (placed_text (cond passes (x ∷ later) later))
-kept_behind true x later is rest = behind x.line (placed_text later) (handed_line x.line is) rest
-kept_behind false x later is rest = rest
-
-handed_text : (test : Placed → Bool) (seen : Moment) (handed : List Handed) → AreObjectsHanded handed →
-    IsObjectLines (placed_text (filter test (placed seen handed)))
-handed_text test seen [] all = none_at_all
-handed_text test seen (h ∷ hs) all =
-    let x : Placed = record { line = h.line; running = latest_of seen h.moment } in
-    kept_behind (test x) x (filter test (placed (latest_of seen h.moment) hs)) all.0 (handed_text test (latest_of seen h.moment) hs all.1)
-
-or_none : (found : Option (List ℕ)) → IfSome found IsObjectLines → IsObjectLines (unwrap_or found [])
-or_none None is = none_at_all
-or_none (Some text) is = is
-
-opened_text : (opened : Bool) (found : Option (List ℕ)) (text : List ℕ) → IfSome found IsObjectLines → IsObjectLines text →
-    IfSome (if opened then Some (unwrap_or found [] ++ text) else found) IsObjectLines
-opened_text true found text is more = behind (unwrap_or found []) text (or_none found is) more
-opened_text false found text is more = is
-
-named : (s : PlainSink) (name : List ℕ) → AreObjectsHanded s.handed → IfSome (s.found name) IsObjectLines →
-    IfSome (file_text s name) IsObjectLines
-unfolding file_text
-named s name all is =
-    opened_text (was_opened s name) (s.found name) (placed_text (filter (lies_in s.names s.opened name) (placed s.opened s.handed))) is
-    (handed_text (lies_in s.names s.opened name) s.opened s.handed all)
-
-unless_gone : (gone : Bool) (text : Option (List ℕ)) → IfSome text IsObjectLines → IfSome (if gone then None else text) IsObjectLines
-unless_gone true text is = tt
-unless_gone false text is = is
-
+-- so are files
 pub files_hold : FilesHoldObjects
-files_hold = record {
-  empty = none_at_all;
-  named = named;
-  left = λ p name all is. unless_gone (p.gone name) (file_text p.sink name) (named p.sink name all is);
-  period = λ s period found all is.
-      opened_text _ found (placed_text (filter (is_in s.names.kind period) (placed s.opened s.handed))) is
-      (handed_text (is_in s.names.kind period) s.opened s.handed all);
-}
+files_hold =
+    files_keep IsObjectLine IsObjectLines none_at_all behind
+    (λ line is. (line ∷ [], (is, tt), sym (append-nil line)))

@@ -17,7 +17,7 @@ use Rattle.event_formatter.specs.formats.Contexts.{PlainContext}
 use Rattle.span_tracing_outputs.specs.OutputFolds.{EachAgrees, Numbered}
 use Rattle.span_tracing_outputs.specs.OutputMachines.{PlainLine}
 use Rattle.span_tracing_outputs.specs.StackFollows.{LinedStack}
-use Rattle.span_tracing_outputs.specs.TraceFollows.{IsReady}
+use Rattle.span_tracing_outputs.specs.TraceFollows.{AreFirst, IsReady, numbers_in}
 use Rattle.span_tracing_outputs.specs.TraceStacks.{IsAtRest, TraceStackValue}
 use Rattle.span_tracing_outputs.specs.Turns.{AreDistinct, Lines, keys_of}
 use Rattle.span_tracing_skeleton.specs.Looking.{inner, output_in}
@@ -59,6 +59,7 @@ module _ {N E F S : Type 0} (n : Ghosts N) (line_of : E → Settings → PlainCo
     valid = subst (CacheIsValid g) (sym same.stack) ready.valid;
     sound = subst (λ (s : LinedStack N E F). IsSound s.registry) (sym same.stack) ready.sound;
     keys = subst (λ (s : LinedStack N E F). AreDistinct (keys_of s.rows)) (sym same.stack) ready.keys;
+    numbers = subst (λ (s : LinedStack N E F). AreFirst (numbers_in s.rows)) (sym same.stack) ready.numbers;
     rest = rests x y same ready.rest;
   }
 

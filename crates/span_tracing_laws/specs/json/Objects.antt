@@ -12,8 +12,9 @@ use Rattle.event_formatter_text.specs.declared.settings.Settings.{Settings}
 use Rattle.event_formatter_lines.specs.JsonLaws.{IsKeptWell, IsObject, IsObjectLine}
 use Rattle.event_formatter.specs.formats.Contexts.{PlainContext}
 use Rattle.event_formatter.specs.fmt_layer.Lines.{fault_if}
-use Rattle.span_tracing_outputs.specs.OutputMachines.{Call, Closed, Entered, Fated, Happened, KeptSpan, Left, Made, OnSpan, PlainLine}
-use Rattle.span_tracing_outputs.specs.OutputMachines.{PlainOut, Recorded, Said, out_run}
+use Rattle.span_tracing_outputs.specs.OutputMachines.{Fated, Happened, KeptSpan, OnSpan, PlainLine, PlainOut, Said, out_run}
+use Rattle.span_tracing_laws.specs.machines.Lines.{AreLines}
+use Rattle.span_tracing_laws.specs.machines.Said.{SaidIs}
 
 -- the numbers of values are in the ranges of their types
 abbrev pub AreInRange : PlainValues → Type 0
@@ -27,18 +28,9 @@ IsPlaceInRange m = IfSome m.line (λ line. line < 2 ^ 32)
 abbrev pub IsEventInRange : PlainEvent → Type 0
 IsEventInRange e = IsPlaceInRange e.metadata × AreInRange e.values
 
--- the numbers of the values that come with a call on a span are in range
-abbrev pub IsCallInRange : Call → Type 0
-IsCallInRange (Made a) = AreInRange a.values
-IsCallInRange (Recorded values) = AreInRange values
-IsCallInRange Entered = Unit {0}
-IsCallInRange Left = Unit {0}
-IsCallInRange Closed = Unit {0}
-
 -- all numbers of what an output is told are in range
 abbrev pub IsInRangeSaid : Said → Type 0
-IsInRangeSaid (OnSpan id m call) = IsPlaceInRange m × IsCallInRange call
-IsInRangeSaid (Happened e) = IsEventInRange e
+IsInRangeSaid said = SaidIs IsPlaceInRange AreInRange IsEventInRange said
 
 -- each value of an event can be formatted
 abbrev pub CanBeFormatted : PlainEvent → Type 0
@@ -94,7 +86,7 @@ AreObjectsOrFaults tells_faults lines = AllByRecursion (λ (line : PlainLine). I
 
 -- each of these lines is an object and a newline
 abbrev pub AreObjectLines : List PlainLine → Type 0
-AreObjectLines lines = AllByRecursion (λ (line : PlainLine). IsObjectLine line.bytes) lines
+AreObjectLines lines = AreLines IsObjectLine lines
 
 -- an output was made as another one, and has the same format
 pub record IsMadeAs {N : Type 0} (o p : PlainOut N) : Type 0 where

@@ -1,11 +1,12 @@
 -- Texts, and files, that hold one object of JSON on each line.
-use Rattle.std.specs.Prelude.{◌≡◌, ◌⊎◌, ℕ, ℤ, List, [], ◌++◌, Option, IfSome, codes}
+use Rattle.std.specs.Prelude.{◌≡◌, ℕ, List, ◌++◌, codes}
 use Rattle.std.specs.List.{AllByRecursion, flat_map}
 use Rattle.std.specs.Str.Lines.{lines}
 use Rattle.event_formatter_text.specs.IsJson.{IsJson, Value}
 use Rattle.event_formatter_lines.specs.JsonLaws.{IsObjectLine}
-use Rattle.tracing_appender_rolling.specs.PrunedSinks.{PrunedSink, pruned_text}
-use Rattle.tracing_appender_rolling.specs.Sinks.{Handed, PlainSink, file_text, period_text}
+use Rattle.tracing_appender_rolling.specs.Sinks.{Handed}
+use Rattle.span_tracing_laws.specs.machines.Files.{FilesKeep}
+use Rattle.span_tracing_laws.specs.machines.Lines.{AreHanded}
 
 -- an object of JSON
 abbrev pub IsJsonObject : List ℕ → Type 0
@@ -26,15 +27,9 @@ LinesGiveObjects = (text : List ℕ) → IsObjectLines text → HoldsObjects tex
 
 -- each line that was handed over is an object and a newline, or found no memory and has no bytes
 abbrev pub AreObjectsHanded : List Handed → Type 0
-AreObjectsHanded handed = AllByRecursion (λ (h : Handed). IsObjectLine h.line ⊎ (h.line ≡ [])) handed
+AreObjectsHanded handed = AreHanded IsObjectLine handed
 
 -- a file of a sink that was handed objects alone is made up of objects, if the text that its opening found is: by its name, where retention
 -- left it, and by its period
-pub record FilesHoldObjects : Type 0 where
-  pub empty : IsObjectLines []
-  pub named : (s : PlainSink) (name : List ℕ) → AreObjectsHanded s.handed → IfSome (s.found name) IsObjectLines →
-      IfSome (file_text s name) IsObjectLines
-  pub left : (p : PrunedSink) (name : List ℕ) → AreObjectsHanded p.sink.handed → IfSome (p.sink.found name) IsObjectLines →
-      IfSome (pruned_text p name) IsObjectLines
-  pub period : (s : PlainSink) (period : ℤ) (found : Option (List ℕ)) → AreObjectsHanded s.handed → IfSome found IsObjectLines →
-      IfSome (period_text s period found) IsObjectLines
+abbrev pub FilesHoldObjects : Type 0
+FilesHoldObjects = FilesKeep IsObjectLine IsObjectLines

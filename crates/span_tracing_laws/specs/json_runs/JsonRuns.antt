@@ -1,12 +1,8 @@
 -- What the files of a JSON output hold after a run.
 use Rattle.std.specs.Prelude.{◌≡◌, ◌⊎◌, ℕ, false, List, Option, Some, None, IfSome, slice_get}
-use Rattle.std.specs.List.{AllByRecursion}
 use Rattle.tracing_core_fields.specs.requests.PlainRequests.{PlainEvent}
 use Rattle.tracing_core_moments.specs.declared.at.At.{At}
-use Rattle.tracing_appender_rolling.specs.folders.Contents.{Contents, bytes_at}
-use Rattle.tracing_appender_rolling.specs.PrunedSinks.{AgreesSink, PrunedSink}
-use Rattle.tracing_appender_queue.specs.queued.LineFates.{WaitingLines}
-use Rattle.tracing_appender_queue.specs.declared.queued.queued_sink.QueuedSink.{QueuedSink}
+use Rattle.tracing_appender_rolling.specs.folders.Contents.{Contents}
 use Rattle.span_registry_layers_layers.specs.declared.filter.Filter.{Ghosts as FilterGhosts}
 use Rattle.event_formatter_text.specs.declared.format_fields.FormatFields.{Ghosts}
 use Rattle.event_formatter_text.specs.declared.settings.Settings.{Settings}
@@ -23,15 +19,11 @@ use Rattle.span_tracing_outputs.specs.OutputFolds.{Numbered}
 use Rattle.span_tracing_outputs.specs.TraceStacks.{TraceStackValue}
 use Rattle.span_tracing_outputs.specs.Turns.{Lined, Lines}
 use Rattle.span_tracing_laws.specs.json.Objects.{AreObjectLines, IsJsonOut, KeepsJson, WritesEach}
-use Rattle.span_tracing_laws.specs.json.Texts.{AreObjectsHanded, HoldsObjects, IsObjectLines}
-use Rattle.span_tracing_outputs.specs.sinks.Fates.{NoneDropped}
-use Rattle.span_tracing_outputs.specs.sinks.QueueFiles.{NoneMissed}
-use Rattle.span_tracing_outputs.specs.sinks.Routed.{Routed}
-use Rattle.span_tracing_outputs.specs.declared.sinks.any_sink.AnySink.{AnySink}
-use Rattle.span_tracing_outputs.specs.declared.sinks.any_sink.AnySink.TheVariants.{Direct, Queued}
-use Rattle.span_tracing_outputs.specs.declared.sinks.sink.RollingSink.{RollingSink}
+use Rattle.span_tracing_laws.specs.json.Texts.{HoldsObjects, IsObjectLines}
+use Rattle.span_tracing_laws.specs.machines.Files.{OutputsReachFiles, QueuesHold, SinksHold}
+use Rattle.span_tracing_laws.specs.machines.Lines.{AreRun}
 use Rattle.span_tracing_steps.specs.States.{stack_in}
-use Rattle.span_tracing_laws.specs.runs.Files.{FileTrace, FilesStand, QueueFilesStand, QueuesWork, routed_at}
+use Rattle.span_tracing_laws.specs.runs.Files.{FileTrace}
 use Rattle.span_tracing_laws.specs.runs.Runs.{AgreesPlain, Plain, StepWithMask, lines_of, steps_of}
 use Rattle.span_tracing_laws.specs.json_runs.Steps.{EventsAreFormatted, IsSkeletonInRange, StepsInRange}
 
@@ -46,7 +38,7 @@ NoFaultIsTold o turns = (o.out.config.log_internal_errors ≡ false) ⊎ (Writes
 
 -- each line of a run is an object and a newline
 abbrev pub AreObjectsRun : List (At × PlainLine) → Type 0
-AreObjectsRun run = AllByRecursion (λ (x : At × PlainLine). IsObjectLine x.1.bytes) run
+AreObjectsRun run = AreRun IsObjectLine run
 
 module _ {N : Type 0} (n : Ghosts N) where
   -- over a run with numbers in range in which no fault is told, the lines of an output of JSON are objects
@@ -56,51 +48,25 @@ module _ {N : Type 0} (n : Ghosts N) where
       (stack place : ℕ) (o : Numbered N) → slice_get (p.outs stack) place ≡ Some o → IsJsonOutput n o → NoFaultIsTold o turns →
       IfSome (slice_get (lines_of n p turns stack) place) AreObjectsRun
 
--- each line that waits in a queue, and each that is held beside it, is an object and a newline
-abbrev pub AreObjectsWaiting : WaitingLines → Type 0
-AreObjectsWaiting w = AllByRecursion IsObjectLine w.queue.queued × AllByRecursion IsObjectLine w.held
-
--- the file of a name holds one object of JSON on each line, if the text that its opening found was made up of such, as the empty text is
-abbrev pub FileHoldsObjects : PrunedSink → Contents → List ℕ → Type 0
-FileHoldsObjects s c name = IfSome (s.sink.found name) IsObjectLines → IfSome (bytes_at c.files name) HoldsObjects
-
 module _ {N E F D : Type 0} (contents : D → Option Contents) where
-  -- so do all files of each direct sink of a stack's output at a place, where the sink dropped no line in the run, was handed objects alone
-  -- before it, and the contents of its folder are known
+  -- all files of each direct sink of a stack's output at a place hold one object of JSON on each line, if the text that their opening found
+  -- was made up of such, where the sink dropped no line in the run, was handed objects alone before it, and the contents of its folder are
+  -- known
   abbrev pub SinksHoldObjects : FileTrace N E F D → FileTrace N E F D → ℕ → ℕ → Type 0
-  SinksHoldObjects v w stack place =
-      (number : ℕ) (olds news : Routed (AnySink D)) (old new : RollingSink D) → routed_at (stack_in v stack) place ≡ Some olds →
-      routed_at (stack_in w stack) place ≡ Some news →
-      slice_get olds.sinks number ≡ Some (Direct old) → slice_get news.sinks number ≡ Some (Direct new) → NoneDropped old new →
-      (s : PrunedSink) →
-      AgreesSink contents old.appender s → AreObjectsHanded s.sink.handed →
-      (c : Contents) → contents new.appender.folder ≡ Some c → (name : List ℕ) → FileHoldsObjects s c name
+  SinksHoldObjects v w stack place = SinksHold contents IsObjectLine IsObjectLines HoldsObjects v w stack place
 
   -- So do those of each queued sink where no line found no memory, and of which objects alone waited and were handed over before. And
-  -- objects alone wait before it then.
+  -- objects alone wait after it then.
   abbrev pub QueuesHoldObjects : FileTrace N E F D → FileTrace N E F D → ℕ → ℕ → Type 0
-  QueuesHoldObjects v w stack place =
-      (number : ℕ) (olds news : Routed (AnySink D)) (old new : QueuedSink D) → routed_at (stack_in v stack) place ≡ Some olds →
-      routed_at (stack_in w stack) place ≡ Some news →
-      slice_get olds.sinks number ≡ Some (Queued old) → slice_get news.sinks number ≡ Some (Queued new) → NoneMissed old new →
-      AreObjectsWaiting old.waiting → (s : PrunedSink) →
-      AgreesSink contents old.appender s →
-      AreObjectsWaiting new.waiting
-      × (AreObjectsHanded s.sink.handed → (c : Contents) → contents new.appender.folder ≡ Some c → (name : List ℕ) →
-      FileHoldsObjects s c name)
+  QueuesHoldObjects v w stack place = QueuesHold contents IsObjectLine IsObjectLines HoldsObjects v w stack place
 
 module _ {N E F D : Type 0} (contents : D → Option Contents) (failed : D → ℕ) (n : Ghosts N) (line_of : E → Settings → PlainContext →
     PlainEvent → Option (List ℕ)) (g : FilterGhosts F) where
-  -- what a run promises of the files of direct sinks and of queued ones
-  pub record OutputsReachFiles (v : FileTrace N E F D) (turns : List StepWithMask) (w : FileTrace N E F D) : Type 0 where
-    pub files : FilesStand contents failed n line_of g v turns w
-    pub queues : QueuesWork contents failed n line_of g v turns w
-    pub queue_files : QueueFilesStand contents failed n line_of g v turns w
-
   -- the files of an output of JSON hold one object on each line after a run with numbers in range in which no fault is told
   abbrev pub JsonFilesHoldObjects : Type 0
   JsonFilesHoldObjects =
-      (v : FileTrace N E F D) (turns : List StepWithMask) (w : FileTrace N E F D) → OutputsReachFiles v turns w →
+      (v : FileTrace N E F D) (turns : List StepWithMask) (w : FileTrace N E F D) →
+      OutputsReachFiles contents failed n line_of g v turns w →
       (p : Plain N) → AgreesPlain n line_of g v p → IsSkeletonInRange p.skeleton → StepsInRange (steps_of turns) →
       (stack place : ℕ) (o : Numbered N) → slice_get (p.outs stack) place ≡ Some o → IsJsonOutput n o → NoFaultIsTold o turns →
       SinksHoldObjects contents v w stack place × QueuesHoldObjects contents v w stack place

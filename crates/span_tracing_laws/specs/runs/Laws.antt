@@ -22,8 +22,10 @@ use Rattle.span_tracing_outputs.specs.OutputFilters.{StackSwap}
 use Rattle.span_tracing_outputs.specs.OutputSettings.{outputs_in, stack_set}
 use Rattle.span_tracing_outputs.specs.TraceStacks.{TraceStackValue}
 use Rattle.span_tracing_outputs.specs.Turns.{Lines}
-use Rattle.span_tracing_skeleton.specs.PlainData.{AnyStep, PlainStep}
+use Rattle.span_tracing_skeleton.specs.PlainData.{AnyStep, PlainStep, Request, SpanStep}
 use Rattle.span_tracing_skeleton.specs.declared.call.Reply.{Reply}
+use Rattle.span_tracing_skeleton.specs.declared.call.Reply.TheVariants.{Span}
+use Rattle.span_tracing_skeleton.specs.declared.call.SpanName.{SpanName}
 use Rattle.span_tracing_skeleton.specs.declared.queue_call.QueueCall.{QueueCall}
 use Rattle.span_tracing_steps.specs.AnySteps.{AnyStepGives}
 use Rattle.span_tracing_steps.specs.States.{PlainThread, new_state, stack_in}
@@ -37,6 +39,7 @@ use Rattle.span_tracing_laws.specs.runs.DrivenSinks.{drives, holds}
 use Rattle.span_tracing_laws.specs.runs.SwappedOutputs.{stack_filtered, swapped_at}
 use Rattle.span_tracing_laws.specs.runs.KeptStacks.{OutsAgree, StackKeeps, StackStays, TraceKeeps}
 use Rattle.span_tracing_laws.specs.runs.Runs.{Road, RunFollows, RunGives}
+use Rattle.span_tracing_laws.specs.runs.SpanMasks.{SpanIsRead}
 use Rattle.span_tracing_laws.specs.runs.StepFollows.{Follows, TraceIsReady, Traced, registry_of, skeleton_of}
 
 -- a callsite that isn't known is kept behind the others; a known one, and a refused call, change nothing
@@ -46,10 +49,13 @@ Registers s m (Err refusal) t = t ≡ s
 
 module _ {N E F S : Type 0} (n : Ghosts N) (line_of : E → Settings → PlainContext → PlainEvent → Option (List ℕ)) (g : FilterGhosts F)
     (takes : S → At → PlainLine → S → Type 0) (h : LayerGhosts (Lines N E)) (sg : SubscriberGhosts (TraceStackValue N E F S)) where
-  -- each step of a trace over stacks with sinks follows the skeleton and the output machines, and leaves the trace ready for the next one
+  -- Each step of a trace over stacks with sinks follows the skeleton and the output machines, and leaves the trace ready for the next one.
+  -- What was answered of a span that is made can be read off it: it is what the outputs see.
   pub record StepsFollow : Type 0 where
     pub each : (v : Traced N E F S) (step : PlainStep) (reply : Reply) (w : Traced N E F S) → TraceIsReady g h v →
         StepGives sg registry_of stack_set v step reply w → Follows n line_of g takes h v step reply w × TraceIsReady g h w
+    pub read : (v : Traced N E F S) (q : Request) (name : SpanName) (w : Traced N E F S) → TraceIsReady g h v →
+        StepGives sg registry_of stack_set v (SpanStep q) (Span (Some name)) w → SpanIsRead v q name w
 
   -- so does a run of steps, on each road
   abbrev pub RunsFollow : (ℕ → QueueCall → List S → Reply → List S → Type 0) → (List S → Bool) → Type 0

@@ -1,4 +1,4 @@
-use Rattle.span_tracing_laws.proofs.json_runs.JsonFiles.{files_hold}
+use Rattle.span_tracing_laws.proofs.json_runs.Files.{files_hold}
 use Rattle.span_tracing_laws.proofs.json_runs.json_files_hold_objects.Goals as goal
 
 pub returns : goal.returns

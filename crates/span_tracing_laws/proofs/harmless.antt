@@ -1,0 +1,10 @@
+mod Texts
+mod KeptTexts
+mod Lines
+mod Faults
+mod SpanEvents
+mod Outputs
+mod Steps
+mod Runs
+mod Layers
+mod Timers

@@ -1,0 +1,10 @@
+pub mod Machine
+pub mod Skeletons
+pub mod Told
+pub mod Outputs
+pub mod Files
+pub mod SinkLines
+pub mod QueueLines
+pub mod QueueFiles
+pub mod OutputFiles
+pub mod Layers

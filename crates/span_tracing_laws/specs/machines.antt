@@ -1,0 +1,4 @@
+pub mod Said
+pub mod Steps
+pub mod Lines
+pub mod Files
