@@ -3,9 +3,8 @@
 use crate::shown::Shown;
 use span_tracing::value::Lend;
 use span_tracing::{
-    Builder, CallError, Clock, DiskFolder, FileStack, FixedClock, LineSettings, Moment,
-    OpenStackError, OutputKey, OutputSpec, Rotation, Site, SpanName, Trace, event, open_trace,
-    record, span,
+    CallError, Clock, DiskFolder, FileStack, FixedClock, LineSettings, Moment, OpenStackError,
+    OutputKey, Site, SpanName, Trace, daily_output, event, open_trace, record, span,
 };
 use std::fs;
 use tracing_core::Level;
@@ -114,32 +113,12 @@ impl<C: Clock> Shop<C> {
     }
 }
 
-/// An output of what a filter passes, whose files are in a directory.
-fn output(
-    rt: &HostRuntime,
-    key: u32,
-    filter: Shown,
-    lines: LineSettings,
-    directory: &str,
-) -> Result<OutputSpec<Shown, DiskFolder<HostRuntime>>, OpenStackError> {
-    let alloc = rt.alloc();
-    let files = Builder::new(alloc)
-        .rotation(Rotation::DAILY)
-        .filename_prefix("shop")
-        .filename_suffix("log");
-    let folder = DiskFolder::new(*rt, directory);
-    OutputSpec::file(alloc, OutputKey(key), filter, lines, files, folder)
-}
-
-/// A trace of two outputs, with one lane.
+/// A trace with one lane and two outputs, each in files `shop.DAY` of a directory.
 fn open(rt: &HostRuntime, now: Moment) -> Result<OrderTrace, OpenStackError> {
-    let alloc = rt.alloc();
-    let text = LineSettings::full();
-    let json = LineSettings::json();
-    let mut outputs = Vec::new(alloc);
-    outputs.push(output(rt, 1, Shown::Info, text, "shop/text")?)?;
-    outputs.push(output(rt, 2, Shown::Shop, json, "shop/audit")?)?;
-    open_trace(alloc, outputs, now)
+    let (text, json) = (LineSettings::full(), LineSettings::json());
+    let info = daily_output(*rt, OutputKey(1), Shown::Info, text, "shop/text", "shop")?;
+    let audit = daily_output(*rt, OutputKey(2), Shown::Shop, json, "shop/audit", "shop")?;
+    open_trace(rt.alloc(), vec![in rt.alloc(); info, audit]?, now)
 }
 
 /// Registers the callsites.
@@ -192,6 +171,6 @@ fn take_all(rt: &HostRuntime) -> Result<bool, OpenStackError> {
 /// Takes the orders, prints the files, and answers whether all went as it has to.
 pub(crate) fn run(rt: &HostRuntime) -> bool {
     take_all(rt) == Ok(true)
-        && print_file(rt, "shop/text/shop.2025-02-17.log").is_ok()
-        && print_file(rt, "shop/audit/shop.2025-02-17.log").is_ok()
+        && print_file(rt, "shop/text/shop.2025-02-17").is_ok()
+        && print_file(rt, "shop/audit/shop.2025-02-17").is_ok()
 }

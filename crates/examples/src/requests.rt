@@ -1,47 +1,22 @@
 //! Logs requests, each in a span: as text for people and as JSON for machines, to files in two directories. It prints the files.
 use span_tracing::value::Lend;
 use span_tracing::{
-    Builder, CallError, DiskFolder, FileStack, LineSettings, Moment, OpenStackError, OutputKey,
-    OutputSpec, Rotation, Site, Trace, event, open_trace, span,
+    CallError, DiskFolder, FileStack, LineSettings, Moment, OpenStackError, OutputKey, Site, Trace,
+    daily_output, event, open_trace, span,
 };
 use std::fs;
 use tracing_core::{Level, LevelFilter};
 
-/// An output under a level, whose files are in a directory.
-type FileOutput = OutputSpec<LevelFilter, DiskFolder<HostRuntime>>;
-
 /// A trace whose outputs stand under levels and write to files in directories.
 type FileTrace = Trace<FileStack<LevelFilter, DiskFolder<HostRuntime>>>;
 
-/// An output that writes what is at least of the level INFO to `app.DAY.log` in a directory, which is made where it isn't there.
-fn output(
-    rt: &HostRuntime,
-    key: u32,
-    lines: LineSettings,
-    directory: &str,
-) -> Result<FileOutput, OpenStackError> {
-    let alloc = rt.alloc();
-    let files = Builder::new(alloc)
-        .rotation(Rotation::DAILY)
-        .filename_prefix("app")
-        .filename_suffix("log");
-    let folder = DiskFolder::new(*rt, directory);
-    OutputSpec::file(
-        alloc,
-        OutputKey(key),
-        LevelFilter::INFO,
-        lines,
-        files,
-        folder,
-    )
-}
-
-/// A trace with two outputs, whose files are opened at the moment, and one lane.
+/// A trace that writes what is at least INFO, as text and as JSON, to files `app.DAY` in two directories.
 fn open(rt: &HostRuntime, now: Moment) -> Result<FileTrace, OpenStackError> {
-    let mut outputs = Vec::new(rt.alloc());
-    outputs.push(output(rt, 1, LineSettings::full(), "logs/text")?)?;
-    outputs.push(output(rt, 2, LineSettings::json(), "logs/json")?)?;
-    open_trace(rt.alloc(), outputs, now)
+    let info = LevelFilter::INFO;
+    let (text, json) = (LineSettings::full(), LineSettings::json());
+    let text = daily_output(*rt, OutputKey(1), info, text, "logs/text", "app")?;
+    let json = daily_output(*rt, OutputKey(2), info, json, "logs/json", "app")?;
+    open_trace(rt.alloc(), vec![in rt.alloc(); text, json]?, now)
 }
 
 /// The callsites of the program.
@@ -110,6 +85,6 @@ fn serve_all(rt: &HostRuntime) -> Result<bool, OpenStackError> {
 /// Serves two requests, prints the files, and answers whether all went as it has to.
 pub(crate) fn run(rt: &HostRuntime) -> bool {
     serve_all(rt) == Ok(true)
-        && print_file(rt, "logs/text/app.2025-02-17.log").is_ok()
-        && print_file(rt, "logs/json/app.2025-02-17.log").is_ok()
+        && print_file(rt, "logs/text/app.2025-02-17").is_ok()
+        && print_file(rt, "logs/json/app.2025-02-17").is_ok()
 }

@@ -1,4 +1,6 @@
 pub mod Setup
+pub mod DailyOutputs
+pub mod CarriedSteps
 pub mod SpanMoments
 pub mod OpenedTrace
 pub mod Ready
@@ -18,6 +20,7 @@ pub use Rattle.span_tracing_skeleton.specs.Skeleton
 pub use Rattle.span_tracing_skeleton.specs.Refusals
 pub use Rattle.span_tracing_skeleton.specs.Refusing
 pub use Rattle.span_tracing_skeleton.specs.Replies
+pub use Rattle.span_tracing_skeleton.specs.declared.call.Parent
 pub use Rattle.span_tracing_skeleton.specs.declared.call.Reply
 pub use Rattle.span_tracing_skeleton.specs.declared.call_error.CallError
 pub use Rattle.span_tracing_skeleton.specs.declared.queue_call.QueueCall
@@ -32,6 +35,7 @@ pub use Rattle.span_tracing_steps.specs.Interests
 pub use Rattle.span_tracing_steps.specs.Runs as StepRuns
 pub use Rattle.span_tracing_steps.specs.Setup as SetupSteps
 pub use Rattle.span_tracing_steps.specs.States
+pub use Rattle.span_tracing_steps.specs.Tables
 pub use Rattle.span_tracing_steps.specs.Steps
 pub use Rattle.span_tracing_steps.specs.TraceInvariant
 pub use Rattle.span_tracing_outputs.specs.LayerAgreement
@@ -63,6 +67,7 @@ pub use Rattle.span_tracing_outputs.specs.sinks.SinkCalls
 pub use Rattle.span_tracing_outputs.specs.sinks.SinkTurns
 pub use Rattle.span_tracing_outputs.specs.sinks.Takes
 pub use Rattle.span_tracing_outputs.specs.declared.files.output_spec.OutputSpec
+pub use Rattle.span_tracing_outputs.specs.declared.sinks.any_sink.AnySink
 pub use Rattle.span_tracing_outputs.specs.declared.sinks.sink.RollingSink
 pub use Rattle.span_tracing_laws.specs.json_runs.JsonRuns
 pub use Rattle.span_tracing_laws.specs.queue_steps.SinkPlaces
@@ -73,6 +78,7 @@ pub use Rattle.span_tracing_laws.specs.runs.KeptStacks
 pub use Rattle.span_tracing_laws.specs.runs.Laws
 pub use Rattle.span_tracing_laws.specs.runs.Runs
 pub use Rattle.span_tracing_laws.specs.runs.SkippedCallsites
+pub use Rattle.span_tracing_laws.specs.runs.SpanMasks
 pub use Rattle.span_tracing_laws.specs.runs.StepFollows
 pub use Rattle.span_tracing_laws.specs.runs.StepNotices
 pub use Rattle.span_tracing_laws.specs.runs.StepSettings
@@ -91,3 +97,26 @@ pub use Rattle.event_formatter.specs.declared.formats.fields.Fields
 pub use Rattle.event_formatter.specs.declared.formats.format.Format
 pub use Rattle.event_formatter.specs.declared.formats.line_format.LineFormat
 pub use Rattle.event_formatter.specs.declared.formats.timer.Timer
+pub use Rattle.event_formatter_text.specs.declared.format_fields.FormatFields
+pub use Rattle.span_tracing_shared.specs.Journals
+pub use Rattle.span_tracing_shared.specs.Lanes
+pub use Rattle.span_tracing_shared.specs.Entries
+pub use Rattle.span_tracing_shared.specs.Seats
+pub use Rattle.span_tracing_shared.specs.Books
+pub use Rattle.span_tracing_shared.specs.Closing
+pub use Rattle.span_tracing_shared.specs.Running
+pub use Rattle.span_tracing_shared.specs.JournalLaws
+pub use Rattle.span_tracing_shared.specs.Masks
+pub use Rattle.span_tracing_laws.specs.harmless.Kept as HarmlessKept
+pub use Rattle.span_tracing_laws.specs.harmless.Lines as HarmlessFormats
+pub use Rattle.span_tracing_laws.specs.harmless.Outputs as HarmlessOutputs
+pub use Rattle.span_tracing_laws.specs.harmless.Runs as HarmlessRuns
+pub use Rattle.span_tracing_laws.specs.harmless.Steps as HarmlessSteps
+pub use Rattle.span_tracing_laws.specs.harmless.Timers as HarmlessTimers
+pub use Rattle.span_tracing_outputs.specs.BufferedLines
+pub use Rattle.span_tracing_outputs.specs.TraceSteadiness
+pub use Rattle.span_tracing_outputs.specs.files.Either as EitherFolders
+pub use Rattle.span_tracing_laws.specs.machines.Files as MachineFiles
+pub use Rattle.span_registry_layers_store.specs.CloseCandidates
+pub use Rattle.span_registry_layers_store.specs.Parts as RegistryParts
+pub use Rattle.tracing_core_fields.specs.OwnedCopies

@@ -12,7 +12,10 @@ use event_formatter::FormatEvent;
 use event_formatter_text::FormatFields;
 use span_registry_layers_layers::{Filter, Layer};
 pub use span_tracing_laws::{
-    calls_may_change_places, nothing_is_starved, queues_count_exactly, work_may_be_cut,
+    calls_may_change_places, files_stay_harmless, formats_write_harmless_lines,
+    harmless_formats_fill_files, harmless_outputs_fill_files, harmless_outputs_run,
+    harmless_runs_fill_files, kept_texts_are_harmless, nothing_is_starved, outputs_stay_harmless,
+    queues_count_exactly, timers_are_harmless, work_may_be_cut,
 };
 use span_tracing_outputs::PendingLines;
 use tracing_core_fields::LevelFilter;

@@ -2,6 +2,8 @@
 #![tactic(auto)]
 
 mod calls;
+mod carries_out;
+mod daily;
 mod interest;
 pub mod laws;
 mod macros;
@@ -14,6 +16,7 @@ mod trace;
 pub mod value;
 
 pub use calls::calls_make_runs;
+pub use daily::daily_output;
 pub use event_formatter::Compact;
 pub use event_formatter::Fields;
 pub use event_formatter::Format;
@@ -77,6 +80,25 @@ pub use span_tracing_outputs::routed_sinks_take_theirs;
 pub use span_tracing_outputs::runs_are_told;
 pub use span_tracing_outputs::sinks_meet_theirs;
 pub use span_tracing_outputs::trace_starts;
+pub use span_tracing_shared::Book;
+pub use span_tracing_shared::Call;
+pub use span_tracing_shared::CarriesOut;
+pub use span_tracing_shared::Closed;
+pub use span_tracing_shared::Entry as JournalEntry;
+pub use span_tracing_shared::Gate;
+pub use span_tracing_shared::Mask;
+pub use span_tracing_shared::NotOpened;
+pub use span_tracing_shared::Open;
+pub use span_tracing_shared::Seat;
+pub use span_tracing_shared::SeatError;
+pub use span_tracing_shared::Shared;
+pub use span_tracing_shared::SharedNotOpened;
+pub use span_tracing_shared::Torn;
+pub use span_tracing_shared::fits;
+pub use span_tracing_shared::is_of_lane;
+pub use span_tracing_shared::journals_compose;
+pub use span_tracing_shared::left_out_make_no_difference;
+pub use span_tracing_shared::replies_count;
 pub use span_tracing_skeleton::CallError;
 pub use span_tracing_skeleton::DefaultCall;
 pub use span_tracing_skeleton::EnabledCall;

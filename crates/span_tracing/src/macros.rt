@@ -3,10 +3,12 @@
 /// Tells an event of a [`Site`](crate::Site), in the lane's current span of the stack that the lane reaches: `event!(trace, lane, moment,
 /// site, field = value, ..)`.
 ///
-/// Each field of the site may be given a value, in any order; one that is given none is left out. A value is anything that has
-/// [`Value`](crate::value::Value): numbers, bools, texts that are owned or lent, bytes, what [`display`](crate::value::display) and
-/// [`debug`](crate::value::debug) wrote, and an `Option` of these. Nothing is copied. The trait [`Lend`](crate::value::Lend) has to be
-/// imported.
+/// Each field of the site may be given a value, in any order; one that is given none is left out, and one that is given two is an error of
+/// the compiler. A value is anything that has [`Value`](crate::value::Value): numbers, bools, texts that are owned or lent, bytes, what
+/// [`display`](crate::value::display) and [`debug`](crate::value::debug) wrote, and an `Option` of these. (A call with an `Option<&str>`
+/// beside another value runs, but can't be proved.) Nothing is copied. The trait [`Lend`](crate::value::Lend) has to be imported.
+///
+/// The site has to be one of this trace, which nothing checks. Lines show the values in the order in which they are given.
 ///
 /// The answer is `Ok(())`, or a [`CallError`](crate::CallError): the trace refused the event, or the site has no field of some name. Then
 /// nothing was done.
@@ -27,7 +29,7 @@ macro_rules! event {
                 let at = ($lane, $moment);
                 let mark = true;
                 $crate::with_values!(
-                    site, mark, [],
+                    site, mark, [], [],
                     ($trace, event, done, at.0, at.1, site.identifier, $crate::Parent::Contextual);
                     $($($values)*)?
                 )
@@ -51,7 +53,7 @@ macro_rules! span {
                 let at = ($lane, $moment);
                 let mark = true;
                 $crate::with_values!(
-                    site, mark, [],
+                    site, mark, [], [],
                     ($trace, new_span, span, at.0, at.1, site.identifier, $crate::Parent::Contextual);
                     $($($values)*)?
                 )
@@ -60,8 +62,8 @@ macro_rules! span {
     };
 }
 
-/// Adds values to a span's: `record!(trace, lane, moment, site, span, field = value, ..)`, where the site is the one that the span was made
-/// of. Values are given as to [`event!`](crate::event).
+/// Adds values to a span's: `record!(trace, lane, moment, site, span, field = value, ..)`. The site has to be the one that the span was made
+/// of, which nothing checks. Values are given as to [`event!`](crate::event).
 #[macro_export]
 macro_rules! record {
     ($trace:expr, $lane:expr, $moment:expr, $site:expr, $span:expr $(, $($values:tt)*)?) => {
@@ -69,7 +71,7 @@ macro_rules! record {
             let site: $crate::Site = $site;
             let at = ($lane, $moment, $span);
             let mark = true;
-            $crate::with_values!(site, mark, [], ($trace, record, done, at.0, at.1, at.2); $($($values)*)?)
+            $crate::with_values!(site, mark, [], [], ($trace, record, done, at.0, at.1, at.2); $($($values)*)?)
         }
     };
 }
@@ -78,27 +80,35 @@ macro_rules! record {
 #[doc(hidden)]
 #[macro_export]
 macro_rules! with_values {
-    ($site:ident, $mark:ident, [$($done:tt)*], ($trace:expr, $method:ident, $kind:ident, $($argument:expr),*);) => {
-        $trace.$method($($argument,)* &[$($done)*]).$kind()
+    ($site:ident, $mark:ident, [$($name:ident)*], [$($done:tt)*], ($trace:expr, $method:ident, $kind:ident, $($argument:expr),*);) => {
+        {
+            // No name stands twice in a pattern, so the compiler refuses a field that is given two values.
+            {
+                let ($($name,)*) = ($(stringify!($name),)*);
+            }
+            $trace.$method($($argument,)* &[$($done)*]).$kind()
+        }
     };
-    ($site:ident, $mark:ident, [$($done:tt)*], $call:tt; $field:ident = $value:literal $(, $($later:tt)*)?) => {
+    ($site:ident, $mark:ident, [$($name:ident)*], [$($done:tt)*], $call:tt; $field:ident = $value:literal $(, $($later:tt)*)?) => {
         match $site.field(stringify!($field)) {
             Err(error) => Err(error),
             Ok(place) => $crate::with_values!(
                 $site,
                 $mark,
+                [$($name)* $field],
                 [$($done)* $crate::value::LentValue { field: place, value: $crate::value::Literal::literal($value, &$mark) },],
                 $call;
                 $($($later)*)?
             ),
         }
     };
-    ($site:ident, $mark:ident, [$($done:tt)*], $call:tt; $field:ident = $value:expr $(, $($later:tt)*)?) => {
+    ($site:ident, $mark:ident, [$($name:ident)*], [$($done:tt)*], $call:tt; $field:ident = $value:expr $(, $($later:tt)*)?) => {
         match $site.field(stringify!($field)) {
             Err(error) => Err(error),
             Ok(place) => $crate::with_values!(
                 $site,
                 $mark,
+                [$($name)* $field],
                 [$($done)* $crate::value::LentValue { field: place, value: ($value).lend() },],
                 $call;
                 $($($later)*)?

@@ -11,6 +11,7 @@ mod outputs;
 mod queue_script;
 mod queues;
 mod random;
+mod shared;
 mod single;
 mod sinks;
 mod steps;

@@ -33,7 +33,8 @@ impl<'v> Lend<'v> for &'v str {
     ghost lent = { λ text. Some (Text text.now) };
 
     fn lend(self) -> AnyValue<'v> {
-        AnyValue::Str(self)
+        let text: &'v str = self;
+        AnyValue::Str(text)
     }
 }
 

@@ -6,3 +6,4 @@ pub mod Books
 pub mod Closing
 pub mod Running
 pub mod JournalLaws
+pub mod Masks

@@ -1,10 +1,10 @@
-//! Which outputs' filters passed a request.
-ghost use Rattle.std.specs.Prelude.{◌≡◌, ◌≤◌, [], ◌∷◌, ◌++◌, ◌<◌, length, slice_get};
+//! What filters answered to a step.
+ghost use Rattle.std.specs.Prelude.{◌≡◌, ◌≤◌, [], ◌∷◌, ◌++◌, ◌<◌, length, slice_get, take};
 
 use std::marker::Model;
 
-/// Of each output of the stack that was reached, in order, whether its filter passed the callsite of a request. It has
-/// none where no filter was asked. A contract sees it as a list.
+/// What filters answered to a step: of a new span what that of each output of the reached stack did, in order, and of a question whether
+/// some passed. It has none where no filter was asked. A contract sees it as a list.
 #[derive(Debug, Drop)]
 pub struct Mask {
     outputs: usize,
@@ -30,6 +30,14 @@ impl Mask {
             outputs: 0,
             passed: [false; 64],
         }
+    }
+
+    /// What the filters of so many outputs answered, which stand first in the list.
+    pub fn of(outputs: usize, passed: [bool; 64]) -> Mask
+        requires { outputs ≤ 64 }
+        ensures { result ≡ take outputs passed }
+    {
+        Mask { outputs, passed }
     }
 
     /// How many outputs were asked.

@@ -43,3 +43,10 @@ pub use Rattle.tracing_appender_rolling.specs.AnyFolder
 pub use Rattle.tracing_appender_rolling.specs.LineHandover
 pub use Rattle.tracing_appender_rolling.specs.FilesInOrder
 pub use Rattle.tracing_appender_rolling.specs.FilesByTries
+pub use Rattle.tracing_appender_queue.specs.Queue
+pub use Rattle.tracing_appender_queue.specs.Offers
+pub use Rattle.tracing_appender_queue.specs.History
+pub use Rattle.tracing_appender_queue.specs.View
+pub use Rattle.tracing_appender_queue.specs.worker.Batches
+pub use Rattle.tracing_appender_queue.specs.worker.Steps
+pub use Rattle.tracing_appender_queue.specs.worker.Workers

@@ -26,6 +26,10 @@ pub use clock::Clock;
 pub use clocked::{Clocked, ClockedAppender};
 pub use fixed::FixedClock;
 pub use system::SystemClock;
+pub use tracing_appender_queue::{
+    Batched, MarkError, Offered, QueueState, Settled, Taken, Written, ZeroLimit, batch,
+    first_lines_are_taken, queue_is_its_lists, steps_have_one_end, steps_may_be_cut,
+};
 pub use tracing_appender_rolling::{
     BuildError, BuildRefusal, Builder, DiskFolder, Entry, Faults, FaultyFolder, FileEntry,
     FileNumber, Folder, FolderError, FolderFault, InitContext, InitError, MemoryFolder,

@@ -4,22 +4,22 @@ use Rattle.tracing_core.specs.PlainRequests.{PlainEvent}
 use Rattle.tracing_core.specs.Subscriber.{Ghosts as SubscriberGhosts}
 use Rattle.span_registry_layers.specs.Filter.{Ghosts as FilterGhosts}
 use Rattle.span_registry_layers.specs.Layer.{Ghosts as LayerGhosts}
-use Rattle.event_formatter_text.specs.declared.format_fields.FormatFields.{Ghosts}
-use Rattle.event_formatter_text.specs.declared.settings.Settings.{Settings}
-use Rattle.event_formatter.specs.formats.Contexts.{PlainContext}
-use Rattle.tracing_appender_rolling.specs.folders.Contents.{Contents}
-use Rattle.span_tracing_outputs.specs.TraceStacks.{TraceStackValue}
-use Rattle.span_tracing_outputs.specs.Turns.{Lines}
-use Rattle.span_tracing_outputs.specs.sinks.Routed.{Routed}
-use Rattle.span_tracing_outputs.specs.declared.sinks.any_sink.AnySink.{AnySink}
-use Rattle.span_tracing_skeleton.specs.PlainData.{AnyStep, OfTrace, PlainStep}
-use Rattle.span_tracing_skeleton.specs.declared.call.Reply.{Reply}
-use Rattle.span_tracing_skeleton.specs.declared.call.Reply.TheVariants.{Done}
-use Rattle.span_tracing_steps.specs.Steps.{StepGives}
-use Rattle.span_tracing_outputs.specs.OutputSettings.{stack_set}
-use Rattle.span_tracing_laws.specs.runs.StepFollows.{registry_of}
+use Rattle.span_tracing.specs.FormatFields.{Ghosts}
+use Rattle.event_formatter.specs.Settings.{Settings}
+use Rattle.span_tracing.specs.Contexts.{PlainContext}
+use Rattle.tracing_appender.specs.Contents.{Contents}
+use Rattle.span_tracing.specs.TraceStacks.{TraceStackValue}
+use Rattle.span_tracing.specs.Turns.{Lines}
+use Rattle.span_tracing.specs.Routed.{Routed}
+use Rattle.span_tracing.specs.AnySink.{AnySink}
+use Rattle.span_tracing.specs.PlainData.{AnyStep, OfTrace, PlainStep}
+use Rattle.span_tracing.specs.Reply.{Reply}
+use Rattle.span_tracing.specs.Reply.TheVariants.{Done}
+use Rattle.span_tracing.specs.Steps.{StepGives}
+use Rattle.span_tracing.specs.OutputSettings.{stack_set}
+use Rattle.span_tracing.specs.StepFollows.{registry_of}
 use Rattle.span_tracing.proofs.StepsOfTraces.{done_step}
-use Rattle.span_tracing_laws.specs.runs.Files.{FileTrace}
+use Rattle.span_tracing.specs.Files.{FileTrace}
 use Rattle.span_tracing.specs.Ready.{FileStepGives, IsStep}
 
 module _ {N E F D : Type 0} (contents : D → Option Contents) (failed : D → ℕ)

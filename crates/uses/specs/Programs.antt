@@ -1,9 +1,9 @@
 -- The steps of a program that logs.
 use Rattle.std.specs.Prelude.{ℕ, List, [], ◌∷◌, Some}
 use Rattle.tracing_core.specs.PlainValue.{Text}
-use Rattle.tracing_core_moments.specs.declared.moment.Moment.{Moment}
-use Rattle.span_tracing_skeleton.specs.PlainData.{AnyStep, DefaultStep, EventStep, OfTrace, ResetStep}
-use Rattle.span_tracing_skeleton.specs.declared.call.Parent.TheVariants.{Contextual}
+use Rattle.tracing_appender.specs.Moment.{Moment}
+use Rattle.span_tracing.specs.PlainData.{AnyStep, DefaultStep, EventStep, OfTrace, ResetStep}
+use Rattle.span_tracing.specs.Parent.TheVariants.{Contextual}
 
 -- an event on a lane whose first field is a text
 abbrev pub message_on : ℕ → Moment → ℕ → List ℕ → AnyStep

@@ -6,6 +6,7 @@ pub mod boxed;
 pub mod choice;
 pub mod filter;
 pub mod hub;
+pub mod lanes;
 pub mod layer;
 pub mod program;
 pub mod queue;

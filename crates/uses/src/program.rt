@@ -3,11 +3,11 @@
 ghost use Rattle.std.specs.Prelude.{◌≡◌, ◌∷◌, [], IfOk, OnErr, Some, length, true, false, Err};
 ghost use Rattle.tracing_core.specs.IndexedEntries.{lent_entries};
 ghost use Rattle.tracing_core.specs.PlainValue.{Text};
-ghost use Rattle.tracing_core_moments.specs.Moments.{is_moment};
-ghost use Rattle.span_tracing_outputs.specs.TraceFollows.{IsReady};
-ghost use Rattle.span_tracing_skeleton.specs.Looking.{reach};
-ghost use Rattle.span_tracing_laws.specs.runs.StepFollows.{TraceIsReady, skeleton_of};
-ghost use Rattle.span_tracing_steps.specs.Runs.{Caching};
+ghost use Rattle.tracing_appender.specs.Moments.{is_moment};
+ghost use Rattle.span_tracing.specs.TraceFollows.{IsReady};
+ghost use Rattle.span_tracing.specs.Looking.{reach};
+ghost use Rattle.span_tracing.specs.StepFollows.{TraceIsReady, skeleton_of};
+ghost use Rattle.span_tracing.specs.StepRuns.{Caching};
 ghost use Rattle.span_tracing.specs.Ready.{FileRunGives, FileStepGives, RunsReady};
 ghost use Rattle.uses.specs.Programs.{message_step};
 

@@ -2,10 +2,10 @@
 
 ghost use Rattle.std.specs.Prelude.{◌≡◌, ◌<◌, true, false, None, Some, IfOk, OnOk, OnErr, slice_get};
 ghost use Rattle.std.specs.Option.{option_map};
-ghost use Rattle.tracing_appender_queue.specs.Queue.{new_queue, accepts, after_offer, after_take, after_mark, mark_next};
+ghost use Rattle.tracing_appender.specs.Queue.{new_queue, accepts, after_offer, after_take, after_mark, mark_next};
 
 use std::alloc::{AllocError, Global};
-use tracing_appender_queue::{MarkError, QueueState, Settled, Taken, ZeroLimit};
+use tracing_appender::{MarkError, QueueState, Settled, Taken, ZeroLimit};
 
 /// A queue that drops lines rather than let the program wait for room. Its limit is at least one line.
 pub fn dropping_queue(alloc: Global, limit: usize) -> QueueState

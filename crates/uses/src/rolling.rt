@@ -1,18 +1,17 @@
 //! A log file that changes by the day, alone: the program writes its own lines.
 
 ghost use Rattle.std.specs.Prelude.{◌≡◌, true, Some, IfOk, ℕ, List};
-ghost use Rattle.tracing_core_moments.specs.declared.period.PeriodKind.TheVariants.{Day};
-ghost use Rattle.tracing_core_moments.specs.Moments.{is_moment};
-ghost use Rattle.tracing_appender_rolling.specs.folders.Memory.{memory_contents, nothing_there};
-ghost use Rattle.tracing_appender_rolling.specs.folders.Entries.{entry_at};
-ghost use Rattle.tracing_appender_rolling.specs.Builders.{prefixed_names};
-ghost use Rattle.tracing_appender_rolling.specs.PrunedSinks.{PrunedSink, AgreesSink, LeavesSink, fresh_sink, pruned_text};
+ghost use Rattle.tracing_appender.specs.PeriodKind.TheVariants.{Day};
+ghost use Rattle.tracing_appender.specs.Moments.{is_moment};
+ghost use Rattle.tracing_appender.specs.Memory.{memory_contents, nothing_there};
+ghost use Rattle.tracing_appender.specs.Entries.{entry_at};
+ghost use Rattle.tracing_appender.specs.Builders.{prefixed_names};
+ghost use Rattle.tracing_appender.specs.PrunedSinks.{PrunedSink, AgreesSink, LeavesSink, fresh_sink, pruned_text};
 
 use std::alloc::{AllocError, Global};
-use tracing_appender_rolling::{
-    BuildError, FileEntry, FolderError, MemoryFolder, RollingFileAppender, daily,
+use tracing_appender::{
+    BuildError, FileEntry, FolderError, MemoryFolder, Moment, RollingFileAppender, daily,
 };
-use tracing_core_moments::Moment;
 
 /// Opens the log of the moment's day in an empty folder in memory. Its files have this prefix and the day in
 /// their names.

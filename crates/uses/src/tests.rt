@@ -6,6 +6,7 @@ ghost use Rattle.tracing_core.specs.Metadata.{plain_metadata};
 
 mod clocked;
 mod json;
+mod lanes;
 mod service;
 mod skipped;
 mod two_stacks;
@@ -23,13 +24,12 @@ use span_registry_layers::{
     Context, ContextTest, DynFilterFn, Filter, Filtered, Identity, Listening, MetadataTest, Output,
     OutputKey, Stack,
 };
-use span_tracing::Reply;
+use span_tracing::{Moment, Reply};
 use std::test::Fail;
 use tracing_core::{
     AnyValue, At, Attributes, DebugText, DefaultCallsite, Event, FieldSet, Identifier, Kind, Level,
     LevelFilter, Metadata,
 };
-use tracing_core_moments::Moment;
 
 /// 2025-02-17T10:01:00Z.
 const MONDAY: Moment = Moment {

@@ -2,10 +2,10 @@
 
 ghost use Rattle.std.specs.Prelude.{◌≡◌, ℕ, ◌∷◌, [], IfOk};
 ghost use Rattle.span_tracing.specs.Ready.{FileRunGives};
-ghost use Rattle.span_tracing_steps.specs.Runs.{Caching};
-ghost use Rattle.span_tracing_laws.specs.runs.StepFollows.{TraceIsReady};
-ghost use Rattle.span_tracing_skeleton.specs.declared.call.Reply.{Reply};
-ghost use Rattle.span_tracing_skeleton.specs.declared.call.Reply.TheVariants.{Guard};
+ghost use Rattle.span_tracing.specs.StepRuns.{Caching};
+ghost use Rattle.span_tracing.specs.StepFollows.{TraceIsReady};
+ghost use Rattle.span_tracing.specs.Reply.{Reply};
+ghost use Rattle.span_tracing.specs.Reply.TheVariants.{Guard};
 ghost use Rattle.uses.specs.Programs.{apart_steps};
 
 use crate::program::{MemoryTrace, message};

@@ -8,6 +8,7 @@ mod keeper;
 mod refusing;
 mod setups;
 mod stepping;
+mod tables;
 
 use crate::tests::common::{MONDAY, TOO_EARLY};
 use keeper::{Keeper, Told};

@@ -1,7 +1,7 @@
 //! A layer of the formatter over a file that changes by a clock.
 
 ghost use Rattle.std.specs.Prelude.{◌≡◌, true};
-ghost use Rattle.tracing_core_moments.specs.Moments.{is_moment};
+ghost use Rattle.tracing_appender.specs.Moments.{is_moment};
 
 use event_formatter::Layer;
 use span_registry_layers::{Filtered, Output, OutputKey, Stack};

@@ -1,7 +1,7 @@
 use Rattle.std.proofs.Common.{ℕ, List, ap}
 use Rattle.tracing_core.specs.PlainValue.{PlainValue}
-use Rattle.span_tracing_skeleton.specs.PlainData.{EventStep, OfTrace}
-use Rattle.span_tracing_skeleton.specs.declared.call.Parent.TheVariants.{Contextual}
+use Rattle.span_tracing.specs.PlainData.{EventStep, OfTrace}
+use Rattle.span_tracing.specs.Parent.TheVariants.{Contextual}
 use Rattle.uses.proofs.Steps.{gives_named}
 use Rattle.uses.proofs.program.log_text.Goals as goal
 

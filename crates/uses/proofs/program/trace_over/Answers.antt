@@ -1,8 +1,8 @@
 use Rattle.std.proofs.Common.{None, ap, length}
-use Rattle.span_tracing_outputs.specs.OutputSettings.{outputs_in, stack_set}
-use Rattle.span_tracing_outputs.specs.sinks.SinkCalls.{sinks_in}
-use Rattle.span_tracing_laws.specs.runs.StepFollows.{registry_of}
-use Rattle.span_tracing_steps.specs.States.{new_state}
+use Rattle.span_tracing.specs.OutputSettings.{outputs_in, stack_set}
+use Rattle.span_tracing.specs.SinkCalls.{sinks_in}
+use Rattle.span_tracing.specs.StepFollows.{registry_of}
+use Rattle.span_tracing.specs.States.{new_state}
 use Rattle.span_tracing.proofs.DefaultStack.{opened, reaches_first}
 use Rattle.uses.proofs.Steps.{gives_done}
 use Rattle.uses.proofs.program.trace_over.Goals as goal

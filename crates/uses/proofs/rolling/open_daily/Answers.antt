@@ -1,6 +1,6 @@
 use Rattle.std.proofs.Common.{ap, refl, Some}
-use Rattle.tracing_appender_rolling.specs.folders.Contents.{Contents}
-use Rattle.tracing_appender_rolling.specs.folders.Memory.{nothing_there}
+use Rattle.tracing_appender.specs.Contents.{Contents}
+use Rattle.tracing_appender.specs.Memory.{nothing_there}
 use Rattle.uses.proofs.rolling.open_daily.Goals as goal
 
 pub returns-in-Ok : goal.returns-in-Ok

@@ -1,7 +1,7 @@
 use Rattle.std.proofs.Common.{ℕ, List, ap, refl}
 use Rattle.tracing_core.specs.PlainValue.{PlainValue}
-use Rattle.span_tracing_skeleton.specs.PlainData.{EventStep, OfTrace}
-use Rattle.span_tracing_skeleton.specs.declared.call.Parent.TheVariants.{Contextual}
+use Rattle.span_tracing.specs.PlainData.{EventStep, OfTrace}
+use Rattle.span_tracing.specs.Parent.TheVariants.{Contextual}
 use Rattle.uses.proofs.Steps.{gives_named, gives_told}
 use Rattle.uses.proofs.two_stacks.log_apart.Goals as goal
 
