@@ -30,6 +30,7 @@ sys.dont_write_bytecode = True
 sys.path.insert(0, os.path.dirname(os.path.realpath(__file__)))
 import cases  # noqa: E402
 import edits  # noqa: E402
+import hostile  # noqa: E402
 import lanes  # noqa: E402
 import ledger  # noqa: E402
 import promises  # noqa: E402
@@ -184,6 +185,9 @@ class Gate:
                 found[it.name, "cases"] = lanes.Task([(it.name, "program")], 20, call)
                 call = lambda it=it: real_files.tried(cases.built(it))
                 found[it.name, "real files"] = lanes.Task([(it.name, "program")], 20, call)
+                if hostile.sample_of(it):
+                    call = lambda it=it: hostile.tried(cases.built(it), hostile.sample_of(it))
+                    found[it.name, "hostile input"] = lanes.Task([(it.name, "program")], 60, call)
             if it.has_tests():
                 call = tests_proved if self.how.tests == "prove" else tests_run
                 found[it.name, "tests"] = lanes.Task(after, 50, lambda it=it, call=call: call(it))
@@ -249,11 +253,11 @@ class Gate:
             if self.how.edits != "drawn":
                 # as it goes, so that a run that is cut off leaves what it found
                 self.write_ledger()
-        elif part in ("cases", "real") and it.is_well:
+        elif part in ("cases", "real", "hostile") and it.is_well:
             for case, text in it.gave.items():
                 print(f"gate: case {case}: {text or 'as it has to be'}")
                 self.count(not text, f"case {case}")
-        if part not in ("plan", "edits", "cases", "real") or not it.is_well:
+        if part not in ("plan", "edits", "cases", "real", "hostile") or not it.is_well:
             self.count(it.is_well, " ".join(key))
         self.open[name] += len(follow) - 1
         if not self.open[name]:

@@ -8,9 +8,6 @@ import real_files
 import unproved
 from kit import rtlib
 
-# What a scene says that only the built program can play.
-LEFT_OUT = "left out"
-
 
 def text_of(crate, name):
     file = f"{crate.folder}/{name}"
@@ -36,10 +33,6 @@ def cases_tried(crate, names):
     return found
 
 
-class LeftOut(Exception):
-    """A scene needs what only the built program has."""
-
-
 class Together:
     """Runs that scenes ask for. Each scene plays in a thread of its own, and once all of them wait, one build serves what they wait for."""
 
@@ -47,10 +40,8 @@ class Together:
         self.crate, self.scenes, self.said = crate, scenes, {}
         self.turn, self.waiting, self.came = threading.Condition(), {}, {}
 
-    def run(self, lines, most=None):
+    def run(self, lines):
         """Runs the program on a scene's lines."""
-        if most:
-            raise LeftOut
         me = threading.current_thread().name
         with self.turn:
             self.waiting[me] = real_files.given(lines)
@@ -59,16 +50,13 @@ class Together:
             return self.came.pop(me)
 
     def play(self, scene):
-        try:
-            said = real_files.played_by(self.run, scene)
-        except LeftOut:
-            said = LEFT_OUT
+        said = real_files.played_by(self.run, scene)
         with self.turn:
             self.said[scene.__name__] = said
             self.turn.notify_all()
 
     def played(self):
-        """Returns each scene with what is wrong, or that it was left out."""
+        """Returns each scene with what is wrong."""
         for it in self.scenes:
             threading.Thread(target=self.play, args=[it], name=it.__name__, daemon=True).start()
         while True:
@@ -85,8 +73,6 @@ class Together:
 
 def scenes_tried(crate):
     """Plays the scenes that the unproved program can play, and returns each with what is wrong."""
-    said = Together(crate, real_files.SCENES).played()
-    for name in [it for it, its in said.items() if its == LEFT_OUT]:
-        print(f"gate: case {name}: {LEFT_OUT}, since it limits what the built program may write")
-        del said[name]
-    return said
+    for it in real_files.OF_BUILT:
+        print(f"gate: case {it.__name__}: left out, since it takes the built program")
+    return Together(crate, [it for it in real_files.SCENES if it not in real_files.OF_BUILT]).played()

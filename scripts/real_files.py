@@ -13,6 +13,8 @@ import signal
 import subprocess
 import sys
 import tempfile
+import threading
+import time
 
 from kit import rt
 
@@ -157,6 +159,31 @@ def a_full_file_loses_the_rest_and_nothing_else(folder, run):
     return first_of(compared(ran.returncode, 0, "status"), compared(replies, ["done"] * 11, "replies"), compared(files(folder), wanted, "files"))
 
 
+def a_killed_program_leaves_whole_lines(folder, run):
+    """It is killed once its file has something. What stands there are the first lines, each whole."""
+    told = [(MONDAY, f"line {at}") for at in range(50_000)]
+    file = f"{folder}/app.2025-02-17"
+    run([stack([output(0, [sink(folder)])]), *events(*told)], kill_at=file)
+    found = files(folder).get("app.2025-02-17", "")
+    return compared(found, "".join(f"app: {text}\n" for _, text in told[: found.count("\n")]), "file")
+
+
+def two_programs_at_one_file_leave_whole_lines(folder, run):
+    """Nothing is promised of two programs that write to one file. Where each write goes to the end of the file at once, as here, no line is torn."""
+    told = [[(MONDAY, f"{name} {at}") for at in range(2_000)] for name in ("one", "two")]
+    ran = {}
+    play = lambda its: ran.update({its[0][1]: run([stack([output(0, [sink(folder)])]), *events(*its)])})
+    running = [threading.Thread(target=play, args=[its]) for its in told]
+    for it in running:
+        it.start()
+    for it in running:
+        it.join()
+    lines = files(folder).get("app.2025-02-17", "").splitlines(keepends=True)
+    each = [[it for it in lines if it.startswith(f"app: {name} ")] for name in ("one", "two")]
+    wanted = [[f"app: {text}\n" for _, text in its] for its in told]
+    return first_of(compared([it.returncode for it in ran.values()], [0, 0], "statuses"), compared(len(lines), 4_000, "lines"), compared(each, wanted, "lines"))
+
+
 SCENES = [
     a_file_for_each_day,
     a_file_for_each_minute_in_directories_that_are_made,
@@ -171,7 +198,11 @@ SCENES = [
     a_link_to_the_newest_file_is_refused,
     a_later_file_that_is_refused_leaves_the_old_one,
     a_full_file_loses_the_rest_and_nothing_else,
+    a_killed_program_leaves_whole_lines,
+    two_programs_at_one_file_leave_whole_lines,
 ]
+# These limit, kill or start programs themselves.
+OF_BUILT = SCENES[-3:]
 
 
 def limited(most):
@@ -185,12 +216,24 @@ def given(lines):
     return "".join(f"{json.dumps(it)}\n" for it in lines).encode()
 
 
+def killed_once_there(running, file):
+    """Kills what runs once a file has something, or after a minute."""
+    last = time.time() + 60
+    while time.time() < last and not (os.path.isfile(file) and os.path.getsize(file)):
+        time.sleep(0.001)
+    running.kill()
+
+
 def played(program, scene):
     """Returns what the scene says of the program."""
 
-    def run(lines, most=None):
-        how = {"input": given(lines), "capture_output": True, "cwd": "/", "env": {"LANG": "C.UTF-8"}, "timeout": rt.LIMIT}
-        return subprocess.run([*rt.drop_to_nobody(), program, "replay"], preexec_fn=most and (lambda: limited(most)), **how)
+    def run(lines, most=None, kill_at=None):
+        how = {"stdin": subprocess.PIPE, "stdout": subprocess.PIPE, "stderr": subprocess.PIPE, "cwd": "/", "env": {"LANG": "C.UTF-8"}}
+        running = subprocess.Popen([*rt.drop_to_nobody(), program, "replay"], preexec_fn=most and (lambda: limited(most)), **how)
+        if kill_at:
+            threading.Thread(target=killed_once_there, args=[running, kill_at]).start()
+        out, err = running.communicate(given(lines), timeout=rt.LIMIT)
+        return subprocess.CompletedProcess(running.args, running.returncode, out, err)
 
     return played_by(run, scene)
 

@@ -98,6 +98,15 @@ CASE = {
     "cases/a_number.out": "42\n",
 }
 
+# A program that reads nothing, and so takes what nobody can read.
+BLIND = {
+    **CASE,
+    "crates/span_trace/src/main.rt": "// A program that prints nothing.\n#![tactic(auto)]\n\nuse std::io;\n\nfn main(_rt: HostRuntime) -> io::Result<()> {\n    let _found = low::next(41);\n    Ok(())\n}\n",
+    "crates/span_trace/stdout": "",
+    "crates/span_trace/stdin": "x\n",
+    "cases/a_number.out": "",
+}
+
 # The name of each fault, the files that it changes or adds, the crate that the gate is asked for, and what the gate has to say.
 FAULTS = [
     ("nothing is wrong", {}, "app", "0 failed"),
@@ -106,6 +115,7 @@ FAULTS = [
     ("a stored output is changed", {"crates/app/stdout": "43\n"}, "app", "FAILED: app program"),
     ("a case prints something else", {**CASE, "cases/a_number.out": "43\n"}, "span_trace", "FAILED: case a_number"),
     ("a case ends with another status", {**CASE, "cases/a_number.status": "1\n"}, "span_trace", "its status is '0', and not '1'"),
+    ("a program takes what can not be read", BLIND, "span_trace", "case lines_that_no_reader_takes"),
     ("a case has no output", {**CASE, "cases/another.in": ""}, "span_trace", "FAILED: case file another.in"),
     ("harmless edits stand among edits", {
         f"{EDITS}/harmless.edit": "file: src/lib.rt\nold:     x + 1\nnew:     1 + x\n",
