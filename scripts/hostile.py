@@ -115,6 +115,17 @@ def memory_stays_within_the_bound(program, _sample):
     return ""
 
 
+def has_terminals():
+    """Returns whether the machine gives terminals, and says so where it doesn't."""
+    try:
+        for it in pty.openpty():
+            os.close(it)
+        return True
+    except OSError as fault:
+        print(f"no run reads from a terminal, since there is none: {fault}")
+        return False
+
+
 def read_from_a_terminal(program, given):
     """Runs the program on an input whose read fails behind the last byte, as at the end of a terminal that was closed by whoever wrote to it."""
     its, ours = pty.openpty()
@@ -133,7 +144,7 @@ def reads_and_writes_that_fail(program, sample):
     os.close(folder)
     if wrong_of(ran) or ran.returncode != UNREADABLE:
         return f"on a directory it ended so: {ran!r:.300}"
-    for most in (0, 1, len(sample) // 2, len(sample)):
+    for most in (0, 1, len(sample) // 2, len(sample)) if has_terminals() else ():
         ran = read_from_a_terminal(program, sample[:most])
         if wrong_of(ran) or ran.returncode != UNREADABLE:
             return f"on a terminal that fails behind {most} bytes it ended so: {ran!r:.300}"
