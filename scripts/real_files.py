@@ -149,6 +149,17 @@ def a_later_file_that_is_refused_leaves_the_old_one(folder, run):
     return first_of(compared(ran.returncode, 0, "status"), compared(files(folder), wanted, "files"))
 
 
+def a_folder_that_refuses_for_a_while_comes_back(folder, run):
+    """What stands under the names of two minutes refuses them. Their lines go to the minute before, also where the clock goes back, and the minute after has its own file."""
+    os.mkdir(f"{folder}/app.2025-02-17-10-02")
+    os.mkfifo(f"{folder}/app.2025-02-17-10-03")
+    told = [(MONDAY + 60 * minute, f"{minute}") for minute in (0, 1, 2, 1, 3, 1)]
+    ran = run([stack([output(0, [sink(folder, "minutely", max_files=2)])]), *events(*told)])
+    os.remove(f"{folder}/app.2025-02-17-10-03")
+    wanted = {"app.2025-02-17-10-01": "app: 0\napp: 1\napp: 2\napp: 1\n", "app.2025-02-17-10-04": "app: 3\napp: 1\n"}
+    return first_of(compared(ran.returncode, 0, "status"), compared(files(folder), wanted, "files"))
+
+
 def a_full_file_loses_the_rest_and_nothing_else(folder, run):
     """A limit on a file's size stands for a full device: the line that meets it loses its rest, and later ones are lost, but the next day's aren't."""
     told = [(MONDAY, f"line {at}") for at in range(9)]
@@ -166,6 +177,22 @@ def a_killed_program_leaves_whole_lines(folder, run):
     run([stack([output(0, [sink(folder)])]), *events(*told)], kill_at=file)
     found = files(folder).get("app.2025-02-17", "")
     return compared(found, "".join(f"app: {text}\n" for _, text in told[: found.count("\n")]), "file")
+
+
+def a_directory_that_is_removed_is_made_again_the_next_day(folder, run):
+    """The directory is removed once its file has something. The lines of that day are lost with it, and no reply tells so."""
+    told = [(MONDAY, f"line {at}") for at in range(50_000)]
+    logs = f"{folder}/logs"
+    lines, file = [stack([output(0, [sink(logs)])]), *events(*told, (TUESDAY, "next"))], f"{logs}/app.2025-02-17"
+    for _ in range(9):
+        removing = threading.Thread(target=once_there, args=[file, lambda: shutil.rmtree(logs)])
+        removing.start()
+        ran = run(lines)
+        removing.join()
+        if os.path.isdir(logs):
+            done = ran.stdout.count(b'"done"')
+            return first_of(compared((ran.returncode, done), (0, 50_002), "status and replies"), compared(files(logs), {"app.2025-02-18": "app: next\n"}, "files"))
+    return "the directory was never removed before the program ended"
 
 
 def two_programs_at_one_file_leave_whole_lines(folder, run):
@@ -197,12 +224,14 @@ SCENES = [
     a_directory_where_the_file_should_be_is_refused,
     a_link_to_the_newest_file_is_refused,
     a_later_file_that_is_refused_leaves_the_old_one,
+    a_folder_that_refuses_for_a_while_comes_back,
     a_full_file_loses_the_rest_and_nothing_else,
     a_killed_program_leaves_whole_lines,
+    a_directory_that_is_removed_is_made_again_the_next_day,
     two_programs_at_one_file_leave_whole_lines,
 ]
-# These limit, kill or start programs themselves.
-OF_BUILT = SCENES[-3:]
+# These limit, kill, meet or start programs themselves.
+OF_BUILT = SCENES[-4:]
 
 
 def limited(most):
@@ -216,12 +245,12 @@ def given(lines):
     return "".join(f"{json.dumps(it)}\n" for it in lines).encode()
 
 
-def killed_once_there(running, file):
-    """Kills what runs once a file has something, or after a minute."""
+def once_there(file, do):
+    """Makes the call once a file has something, or after a minute."""
     last = time.time() + 60
     while time.time() < last and not (os.path.isfile(file) and os.path.getsize(file)):
         time.sleep(0.001)
-    running.kill()
+    do()
 
 
 def played(program, scene):
@@ -231,7 +260,7 @@ def played(program, scene):
         how = {"stdin": subprocess.PIPE, "stdout": subprocess.PIPE, "stderr": subprocess.PIPE, "cwd": "/", "env": {"LANG": "C.UTF-8"}}
         running = subprocess.Popen([*rt.drop_to_nobody(), program, "replay"], preexec_fn=most and (lambda: limited(most)), **how)
         if kill_at:
-            threading.Thread(target=killed_once_there, args=[running, kill_at]).start()
+            threading.Thread(target=once_there, args=[kill_at, running.kill]).start()
         out, err = running.communicate(given(lines), timeout=rt.LIMIT)
         return subprocess.CompletedProcess(running.args, running.returncode, out, err)
 

@@ -68,7 +68,8 @@ fn write_output<'a, X: Files + AllocGlobal + Clone + Drop, W: Write>(
         let [name, later @ ..] = rest else {
             return Ok(rest);
         };
-        if let (Some(name), EitherFolder::A(folder)) = (name, sink.appender().folder()) {
+        let folder = sink.appender().map(|appender| appender.folder());
+        if let (Some(name), Some(EitherFolder::A(folder))) = (name, folder) {
             write_files(alloc, name.as_str(), folder, output)?;
         }
         rest = later;

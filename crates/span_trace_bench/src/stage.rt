@@ -293,7 +293,10 @@ impl Stage<CountingFolder> {
         let mut counted = Counter { bytes: 0, lines: 0 };
         for routed in stack.sinks() {
             for sink in routed.sinks() {
-                let folder = sink.appender().folder();
+                let Some(appender) = sink.appender() else {
+                    return Err(Fault::OddReply);
+                };
+                let folder = appender.folder();
                 counted.bytes = counted.bytes.saturating_add(folder.bytes);
                 counted.lines = counted.lines.saturating_add(folder.writes);
             }

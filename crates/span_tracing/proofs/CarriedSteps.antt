@@ -18,7 +18,7 @@ use Rattle.span_tracing_outputs.specs.sinks.SinkCalls.{CallsIn, outputs_hold}
 use Rattle.span_tracing_outputs.specs.declared.sinks.any_sink.AnySink.{AnySink}
 use Rattle.span_tracing_outputs.proofs.OutputNumbers.{few_rows}
 use Rattle.span_tracing_skeleton.specs.Looking.{reach}
-use Rattle.span_tracing_skeleton.specs.Machine.{after, answered, is_wanted, new_name, or_refused, reply_of}
+use Rattle.span_tracing_skeleton.specs.Machine.{after, is_wanted, new_name, or_refused, reply_of}
 use Rattle.span_tracing_skeleton.specs.Order.{refusal_of}
 use Rattle.span_tracing_skeleton.specs.PlainData.{AnyStep, OfQueue, OfTrace, PlainStep, Request, GlobalStep, EventStep, EnabledStep}
 use Rattle.span_tracing_skeleton.specs.PlainData.{SpanStep, RecordStep, FollowsFromStep, EnterStep, ExitStep, CloneStep, CloseStep}
@@ -30,8 +30,7 @@ use Rattle.span_tracing_skeleton.specs.declared.call.Reply.TheVariants.{Done, En
 use Rattle.span_tracing_skeleton.specs.declared.call.SpanName.{SpanName}
 use Rattle.span_tracing_skeleton.specs.declared.queue_call.SinkCall.{SinkCall}
 use Rattle.span_tracing_skeleton.specs.declared.refusal.Refusal.{Refusal}
-use Rattle.span_tracing_skeleton.specs.declared.refusal.Refusal.TheVariants.{Busy, OutOfMemory}
-use Rattle.span_tracing_shared.specs.Journals.{answers_of, counts, left_by, made_by_mask, next_by, reply_by, reply_if, some_pass}
+use Rattle.span_tracing_shared.specs.Journals.{counts, left_by, made_by_mask, next_by, reply_by, reply_if, some_pass}
 use Rattle.span_tracing_shared.specs.Masks.{Shows, ShowsSpan}
 use Rattle.span_tracing_shared.proofs.MachineReplies.{reply_counts}
 use Rattle.span_tracing_shared.proofs.Masks.{SameByMask, mask_shows}
@@ -42,7 +41,7 @@ use Rattle.span_tracing_laws.specs.runs.AnySteps.{AnyFollows}
 use Rattle.span_tracing_laws.specs.runs.DrivenSinks.{drives}
 use Rattle.span_tracing_laws.specs.runs.Files.{FileTrace}
 use Rattle.span_tracing_laws.specs.runs.Laws.{StepsFollow}
-use Rattle.span_tracing_laws.specs.runs.SpanMasks.{SpanIsRead, read_of, seen_of}
+use Rattle.span_tracing_laws.specs.runs.SpanMasks.{read_of, seen_of}
 use Rattle.span_tracing_laws.specs.runs.StepFollows.{FindsNoMemory, FollowsStep, IsAnswered, TraceIsReady, Traced, registry_of, skeleton_of}
 use Rattle.span_tracing.specs.CarriedSteps.{FitsMask, mask_of, seen_in}
 use Rattle.span_tracing.specs.Ready.{FileStepGives}
@@ -247,11 +246,11 @@ module _ {N E F S : Type 0} (g : FilterGhosts F) (h : LayerGhosts (Lines N E)) w
   fits w (Worked lines) ready = tt
   fits w (Refused refusal) ready = tt
 
-module _ {N E F D : Type 0} (contents : D → Option Contents) (failed : D → ℕ) (n : Ghosts N) (line_of : E → Settings → PlainContext →
-    PlainEvent → Option (List ℕ)) (g : FilterGhosts F) (takes : Routed (AnySink D) → At → PlainLine → Routed (AnySink D) → Type 0)
-    (h : LayerGhosts (Lines N E)) (sg : SubscriberGhosts (TraceStackValue N E F (Routed (AnySink D))))
+module _ {N E F D Q : Type 0} (contents : D → Option Contents) (failed : D → ℕ) (n : Ghosts N) (line_of : E → Settings → PlainContext →
+    PlainEvent → Option (List ℕ)) (g : FilterGhosts F) (takes : Routed (AnySink D Q) → At → PlainLine → Routed (AnySink D Q) → Type 0)
+    (h : LayerGhosts (Lines N E)) (sg : SubscriberGhosts (TraceStackValue N E F (Routed (AnySink D Q))))
     (law : StepsFollow n line_of g takes h sg) where
-  queue_carried : (v w : FileTrace N E F D) (ask : SinkCall) (reply : Reply) (is_counted : Bool) → counts reply ≡ is_counted →
+  queue_carried : (v w : FileTrace N E F D Q) (ask : SinkCall) (reply : Reply) (is_counted : Bool) → counts reply ≡ is_counted →
       DriveGives (drives (CallsIn contents failed)) v ask.sink ask.call reply w → skeleton_of w ≡ skeleton_of v →
       Carried (skeleton_of v) (OfQueue ask) reply (mask_of reply w) (skeleton_of w)
   queue_carried v w ask reply false is gives same = uncounted (skeleton_of v) (OfQueue ask) reply (mask_of reply w) (skeleton_of w) is same
@@ -260,7 +259,7 @@ module _ {N E F D : Type 0} (contents : D → Option Contents) (failed : D → �
       (sym (driven_told contents failed v ask.sink ask.call reply w gives is))
 
   -- any step, whatever it is
-  pub any_carried : (v w : FileTrace N E F D) (step : AnyStep) (reply : Reply) → TraceIsReady g h v →
+  pub any_carried : (v w : FileTrace N E F D Q) (step : AnyStep) (reply : Reply) → TraceIsReady g h v →
       FileStepGives contents failed sg v step reply w →
       AnyFollows n line_of g takes (CallsIn contents failed) outputs_hold h v step reply w →
       Carried (skeleton_of v) step reply (mask_of reply w) (skeleton_of w)

@@ -190,20 +190,20 @@ same_length r [] (y ∷ ys) pairs = absurd pairs
 same_length r (x ∷ xs) [] pairs = absurd pairs
 same_length r (x ∷ xs) (y ∷ ys) pairs = let later = same_length r xs ys pairs.1 in cc
 
-module _ {F D : Type 0} (contents : D → Option Contents) (failed : D → ℕ) (g : FilterGhosts F) (h : LayerGhosts Shown) (m : Moment)
+module _ {F D Q : Type 0} (contents : D → Option Contents) (failed : D → ℕ) (g : FilterGhosts F) (h : LayerGhosts Shown) (m : Moment)
     (lanes : List PlainLane) where
   -- an opened stack has as many outputs as were asked for
-  pub opened_count : (specs : List (OutputSpec F D))
-      (made : TraceStackValue Fields (Format LineFormat Timer) F (Routed (AnySink D))) →
+  pub opened_count : (specs : List (OutputSpec F D Q))
+      (made : TraceStackValue Fields (Format LineFormat Timer) F (Routed (AnySink D Q))) →
       OpensStack contents failed g h m lanes specs made → outputs_in made ≡ length specs
   opened_count specs made o =
-      ap (λ (x : TraceStackValue Fields (Format LineFormat Timer) F (Routed (AnySink D))). length x.stack.rows) o.paired.1
+      ap (λ (x : TraceStackValue Fields (Format LineFormat Timer) F (Routed (AnySink D Q))). length x.stack.rows) o.paired.1
       ∙ length-map o.stack.rows cleared_row
       ∙ sym o.paired.0
       ∙ same_length (OpensRouting contents failed m) (map routing_of specs) made.sinks o.sinks
       ∙ length-map specs routing_of
 
-  asked_opened : (specs : List (OutputSpec F D)) (rs : List (Routed (AnySink D))) →
+  asked_opened : (specs : List (OutputSpec F D Q)) (rs : List (Routed (AnySink D Q))) →
       Pairs (OpensRouting contents failed m) (map routing_of specs) rs → sinks_of rs ≡ sinks_asked specs
   asked_opened [] [] pairs = refl
   asked_opened [] (r ∷ rs) pairs = absurd pairs
@@ -214,7 +214,7 @@ module _ {F D : Type 0} (contents : D → Option Contents) (failed : D → ℕ) 
       (same_length (OpensSink contents failed m) spec.sinks.items r.sinks pairs.0.sinks)
 
   -- and as many sinks
-  pub opened_sinks : (specs : List (OutputSpec F D))
-      (made : TraceStackValue Fields (Format LineFormat Timer) F (Routed (AnySink D))) →
+  pub opened_sinks : (specs : List (OutputSpec F D Q))
+      (made : TraceStackValue Fields (Format LineFormat Timer) F (Routed (AnySink D Q))) →
       OpensStack contents failed g h m lanes specs made → sinks_in made ≡ sinks_asked specs
   opened_sinks specs made o = asked_opened specs made.sinks o.sinks

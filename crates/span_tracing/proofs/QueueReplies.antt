@@ -1,5 +1,5 @@
 -- A call on the queue of a sink is answered as a queue may answer it.
-use Rattle.std.proofs.Common.{◌≡◌, ℕ, not, Bool, true, false, List, Option, Some, None, Result, Ok, Err, refl, sym, ap, subst, slice_get, ◌∙◌}
+use Rattle.std.proofs.Common.{◌≡◌, ℕ, not, Bool, true, false, List, Option, Some, None, Result, Ok, Err, refl, sym, ap, subst, slice_get}
 use Rattle.tracing_core_moments.specs.declared.moment.Moment.{Moment}
 use Rattle.tracing_core_moments.specs.Moments.{is_moment}
 use Rattle.tracing_appender_rolling.specs.folders.Contents.{Contents}
@@ -11,10 +11,10 @@ use Rattle.tracing_appender_queue.specs.declared.queued.queued_sink.QueuedSink.{
 use Rattle.span_tracing_outputs.specs.TraceStacks.{TraceStackValue}
 use Rattle.span_tracing_outputs.specs.sinks.AnySinks.{CallsAny, CallsQueue, WorksIf, admit_reply, shutdown_reply}
 use Rattle.span_tracing_outputs.specs.sinks.Routed.{Routed}
-use Rattle.span_tracing_outputs.specs.sinks.SinkCalls.{CallsAt, CallsIn, CallsRouted, Reaches, ReachesIf, sink_place}
+use Rattle.span_tracing_outputs.specs.sinks.SinkCalls.{CallsAt, CallsIn, CallsRouted, ReachesIf, sink_place}
 use Rattle.span_tracing_outputs.specs.declared.has_sinks.SinkPlace.{SinkPlace}
 use Rattle.span_tracing_outputs.specs.declared.sinks.any_sink.AnySink.{AnySink}
-use Rattle.span_tracing_outputs.specs.declared.sinks.any_sink.AnySink.TheVariants.{Direct, Queued}
+use Rattle.span_tracing_outputs.specs.declared.sinks.any_sink.AnySink.TheVariants.{Direct, Queued, Live}
 use Rattle.span_tracing_skeleton.specs.Looking.{inner, output_in}
 use Rattle.span_tracing_skeleton.specs.declared.call.Reply.{Reply}
 use Rattle.span_tracing_skeleton.specs.declared.call.Reply.TheVariants.{Refused, Worked}
@@ -70,27 +70,30 @@ module _ {D : Type 0} (contents : D → Option Contents) (failed : D → ℕ) wh
   queue_told Admit old reply new calls = told_as Admit reply (admit_reply calls.0) calls.3 (admit_told calls.0)
   queue_told Shutdown old reply new calls = told_as Shutdown reply (shutdown_reply calls.0) calls.3 (shutdown_told calls.0)
 
-  any_told : (old : AnySink D) (call : QueueCall) (reply : Reply) (new : AnySink D) → CallsAny contents failed old call reply new →
+reached_told : {A : Type 0} (becomes : A → Reply → A → Type 0) (call : QueueCall) → ((x : A) (reply : Reply) (y : A) → becomes x reply y →
+    MayTell call reply) → (place : ℕ) (o : Option A) (xs : List A) (reply : Reply) (ys : List A) → ReachesIf becomes place o xs reply ys →
+    MayTell call reply
+reached_told becomes call each place None xs reply ys reaches =
+    told_as call reply (Refused UnknownSink) reaches.0 (unknown_told call)
+reached_told becomes call each place (Some x) xs reply ys reaches = each x reply reaches.0 reaches.1
+
+module _ {D Q : Type 0} (contents : D → Option Contents) (failed : D → ℕ) where
+  any_told : (old : AnySink D Q) (call : QueueCall) (reply : Reply) (new : AnySink D Q) → CallsAny contents failed old call reply new →
       MayTell call reply
   any_told (Direct old) call reply new calls = told_as call reply (Refused NotQueued) calls.0 (direct_told call)
-  any_told (Queued old) call reply (Queued new) calls = queue_told call old reply new calls
+  any_told (Live old) call reply new calls = told_as call reply (Refused NotQueued) calls.0 (direct_told call)
+  any_told (Queued old) call reply (Queued new) calls = queue_told contents failed call old reply new calls
+  any_told (Queued old) call reply (Live new) calls = absurd calls
   any_told (Queued old) call reply (Direct new) calls = absurd calls
 
-  reached_told : {A : Type 0} (becomes : A → Reply → A → Type 0) (call : QueueCall) → ((x : A) (reply : Reply) (y : A) → becomes x reply y →
-      MayTell call reply) → (place : ℕ) (o : Option A) (xs : List A) (reply : Reply) (ys : List A) → ReachesIf becomes place o xs reply ys →
-      MayTell call reply
-  reached_told becomes call each place None xs reply ys reaches =
-      told_as call reply (Refused UnknownSink) reaches.0 (unknown_told call)
-  reached_told becomes call each place (Some x) xs reply ys reaches = each x reply reaches.0 reaches.1
-
-  routed_told : (sink : ℕ) (call : QueueCall) (old : Routed (AnySink D)) (reply : Reply) (new : Routed (AnySink D)) →
+  routed_told : (sink : ℕ) (call : QueueCall) (old : Routed (AnySink D Q)) (reply : Reply) (new : Routed (AnySink D Q)) →
       CallsRouted contents failed sink call old reply new → MayTell call reply
   routed_told sink call old reply new calls =
       reached_told (λ s r t. CallsAny contents failed s call r t) call (λ s r t any. any_told s call r t any) sink
       (slice_get old.sinks sink) old.sinks reply new.sinks calls.1
 
-  at_told : (at : Option SinkPlace) (call : QueueCall) (olds : List (Routed (AnySink D))) (reply : Reply)
-      (news : List (Routed (AnySink D))) → CallsAt contents failed at call olds reply news → MayTell call reply
+  at_told : (at : Option SinkPlace) (call : QueueCall) (olds : List (Routed (AnySink D Q))) (reply : Reply)
+      (news : List (Routed (AnySink D Q))) → CallsAt contents failed at call olds reply news → MayTell call reply
   at_told None call olds reply news calls = told_as call reply (Refused UnknownSink) calls.0 (unknown_told call)
   at_told (Some at) call olds reply news calls =
       reached_told (λ o r p. CallsRouted contents failed at.sink call o r p) call (λ o r p routed. routed_told at.sink call o r p routed)
@@ -115,10 +118,10 @@ module _ {T : Type 0} (drive : T → ℕ → QueueCall → Reply → T → Type 
       let may = (stack_told v at call (held_in v at.stack) (inner (slice_get v.retired at.stack)) reply w called).is counted in
       rw may refl
 
-module _ {N E F D : Type 0} (contents : D → Option Contents) (failed : D → ℕ) where
+module _ {N E F D Q : Type 0} (contents : D → Option Contents) (failed : D → ℕ) where
   -- what a call on a queue answered stands, where it counts
-  pub driven_told : (v : StateValue (TraceStackValue N E F (Routed (AnySink D)))) (sink : ℕ) (call : QueueCall) (reply : Reply)
-      (w : StateValue (TraceStackValue N E F (Routed (AnySink D)))) → DriveGives (drives (CallsIn contents failed)) v sink call reply w →
+  pub driven_told : (v : StateValue (TraceStackValue N E F (Routed (AnySink D Q)))) (sink : ℕ) (call : QueueCall) (reply : Reply)
+      (w : StateValue (TraceStackValue N E F (Routed (AnySink D Q)))) → DriveGives (drives (CallsIn contents failed)) v sink call reply w →
       counts reply ≡ true → queue_reply (output_in v.sinks 0 sink) call reply ≡ reply
   driven_told v sink call reply w gives counted =
       by_place (drives (CallsIn contents failed))

@@ -65,8 +65,8 @@ module _ {T : Type 0} (g : Ghosts T) (spans : T → RegistryValue) (set : T → 
       subst (λ b. StepBy g spans set does keeps (road_of b) v step reply w) (sym is)
       (subst (λ u. AnyStepGives g spans set does keeps u step reply w) same gives)
 
-pub calls_make_runs : {N E F D : Type 0} (contents : D → Option Contents) (failed : D → ℕ)
-    (sg : Ghosts (TraceStackValue N E F (Routed (AnySink D)))) → CallsMakeRuns contents failed sg
+pub calls_make_runs : {N E F D Q : Type 0} (contents : D → Option Contents) (failed : D → ℕ)
+    (sg : Ghosts (TraceStackValue N E F (Routed (AnySink D Q)))) → CallsMakeRuns contents failed sg
 calls_make_runs contents failed sg = record {
   call = λ v step reply w gives. (w, gives, refl);
   joined = λ road v steps replies mid more later w before after. run_joins sg registry_of stack_set (drives (CallsIn contents failed))

@@ -16,9 +16,9 @@ use Rattle.span_tracing_laws.specs.runs.StepFollows.{registry_of}
 use Rattle.span_tracing.specs.Ready.{FileStepGives}
 
 -- A step that is answered to be done found no line held.
-pub done_step : {N E F D : Type 0} (contents : D → Option Contents) (failed : D → ℕ)
-    (s : SubscriberGhosts (TraceStackValue N E F (Routed (AnySink D)))) (v : FileTrace N E F D) (step : PlainStep) (reply : Reply)
-    (w : FileTrace N E F D) → FileStepGives contents failed s v (OfTrace step) reply w → reply ≡ Done →
+pub done_step : {N E F D Q : Type 0} (contents : D → Option Contents) (failed : D → ℕ)
+    (s : SubscriberGhosts (TraceStackValue N E F (Routed (AnySink D Q)))) (v : FileTrace N E F D Q) (step : PlainStep) (reply : Reply)
+    (w : FileTrace N E F D Q) → FileStepGives contents failed s v (OfTrace step) reply w → reply ≡ Done →
     StepGives s registry_of stack_set v step reply w
 done_step contents failed s v step reply w (inl (held, told, same)) done =
     absurd (let clash : Done ≡ Refused Busy = sym done ∙ told in cc)

@@ -2,6 +2,7 @@
 use Rattle.std.proofs.Common.{◌≡◌, ℕ, List, Option, subst}
 use Rattle.tracing_core_fields.specs.requests.PlainRequests.{PlainEvent}
 use Rattle.tracing_core_fields.specs.declared.requests.subscriber.Subscriber.{Ghosts as SubscriberGhosts}
+use Rattle.tracing_appender_queue.specs.declared.queued.fate.Fate.{Fate}
 use Rattle.tracing_appender_rolling.specs.folders.Contents.{Contents}
 use Rattle.span_registry_layers_layers.specs.declared.filter.Filter.{Ghosts as FilterGhosts}
 use Rattle.span_registry_layers_layers.specs.declared.layer.Layer.{Ghosts as LayerGhosts}
@@ -24,22 +25,22 @@ use Rattle.span_tracing_laws.specs.runs.Laws.{SwapFollows}
 use Rattle.span_tracing_laws.specs.runs.StepFollows.{TraceIsReady, Traced}
 use Rattle.span_tracing.specs.Ready.{IsStep}
 
-pub step_carried : {N E F D : Type 0} (contents : D → Option Contents) (failed : D → ℕ)
-    (s : SubscriberGhosts (TraceStackValue N E F (Routed (AnySink D)))) (n : Ghosts N)
+pub step_carried : {N E F D Q : Type 0} {settles : Q → List ℕ → Fate → Q → Type 0} (contents : D → Option Contents) (failed : D → ℕ)
+    (s : SubscriberGhosts (TraceStackValue N E F (Routed (AnySink D Q)))) (n : Ghosts N)
     (line_of : E → Settings → PlainContext → PlainEvent → Option (List ℕ)) (g : FilterGhosts F) (h : LayerGhosts (Lines N E))
-    (u v : FileTrace N E F D) (step : AnyStep) (reply : Reply) (w : FileTrace N E F D) → u ≡ v →
-    IsStep contents failed s n line_of g h u step reply w → IsStep contents failed s n line_of g h v step reply w
-step_carried contents failed s n line_of g h u v step reply w is done =
-    subst (λ x. IsStep contents failed s n line_of g h x step reply w) is done
+    (u v : FileTrace N E F D Q) (step : AnyStep) (reply : Reply) (w : FileTrace N E F D Q) → u ≡ v →
+    IsStep contents failed settles s n line_of g h u step reply w → IsStep contents failed settles s n line_of g h v step reply w
+step_carried {settles = settles} contents failed s n line_of g h u v step reply w is done =
+    subst (λ x. IsStep contents failed settles s n line_of g h x step reply w) is done
 
 -- so it is where the step is told in another way
-pub step_named : {N E F D : Type 0} (contents : D → Option Contents) (failed : D → ℕ)
-    (s : SubscriberGhosts (TraceStackValue N E F (Routed (AnySink D)))) (n : Ghosts N)
+pub step_named : {N E F D Q : Type 0} {settles : Q → List ℕ → Fate → Q → Type 0} (contents : D → Option Contents) (failed : D → ℕ)
+    (s : SubscriberGhosts (TraceStackValue N E F (Routed (AnySink D Q)))) (n : Ghosts N)
     (line_of : E → Settings → PlainContext → PlainEvent → Option (List ℕ)) (g : FilterGhosts F) (h : LayerGhosts (Lines N E))
-    (v : FileTrace N E F D) (a b : AnyStep) (reply : Reply) (w : FileTrace N E F D) → a ≡ b →
-    IsStep contents failed s n line_of g h v a reply w → IsStep contents failed s n line_of g h v b reply w
-step_named contents failed s n line_of g h v a b reply w is done =
-    subst (λ x. IsStep contents failed s n line_of g h v x reply w) is done
+    (v : FileTrace N E F D Q) (a b : AnyStep) (reply : Reply) (w : FileTrace N E F D Q) → a ≡ b →
+    IsStep contents failed settles s n line_of g h v a reply w → IsStep contents failed settles s n line_of g h v b reply w
+step_named {settles = settles} contents failed s n line_of g h v a b reply w is done =
+    subst (λ x. IsStep contents failed settles s n line_of g h v x reply w) is done
 
 -- and of a filter that changes places with an output's
 pub swap_carried : {T F : Type 0} (s : SubscriberGhosts T) (registry_of : T → RegistryValue) (swap : T → ℕ → F → T → F → Type 0)

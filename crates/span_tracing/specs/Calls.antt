@@ -7,6 +7,7 @@ use Rattle.span_registry_layers_layers.specs.declared.layer.Layer.{Ghosts as Lay
 use Rattle.event_formatter_text.specs.declared.format_fields.FormatFields.{Ghosts}
 use Rattle.event_formatter_text.specs.declared.settings.Settings.{Settings}
 use Rattle.event_formatter.specs.formats.Contexts.{PlainContext}
+use Rattle.tracing_appender_queue.specs.declared.queued.fate.Fate.{Fate}
 use Rattle.tracing_appender_rolling.specs.folders.Contents.{Contents}
 use Rattle.span_tracing_outputs.specs.TraceStacks.{TraceStackValue}
 use Rattle.span_tracing_outputs.specs.Turns.{Lines}
@@ -18,20 +19,20 @@ use Rattle.span_tracing_steps.specs.Runs.{Caching, Road}
 use Rattle.span_tracing_laws.specs.runs.Files.{FileTrace}
 use Rattle.span_tracing.specs.Ready.{FileRunGives, FileStepGives, RunsReady}
 
-module _ {N E F D : Type 0} (contents : D → Option Contents) (failed : D → ℕ)
-    (sg : SubscriberGhosts (TraceStackValue N E F (Routed (AnySink D)))) where
+module _ {N E F D Q : Type 0} (contents : D → Option Contents) (failed : D → ℕ)
+    (sg : SubscriberGhosts (TraceStackValue N E F (Routed (AnySink D Q)))) where
   -- a call is a run of one step, and a run with one that begins where it ended is one run
   pub record CallsMakeRuns : Type 0 where
-    pub call : (v : FileTrace N E F D) (step : AnyStep) (reply : Reply) (w : FileTrace N E F D) →
+    pub call : (v : FileTrace N E F D Q) (step : AnyStep) (reply : Reply) (w : FileTrace N E F D Q) →
         FileStepGives contents failed sg v step reply w → FileRunGives contents failed sg Caching v (step ∷ []) (reply ∷ []) w
-    pub joined : (road : Road) (v : FileTrace N E F D) (steps : List AnyStep) (replies : List Reply) (mid : FileTrace N E F D)
-        (more : List AnyStep) (later : List Reply) (w : FileTrace N E F D) → FileRunGives contents failed sg road v steps replies mid →
+    pub joined : (road : Road) (v : FileTrace N E F D Q) (steps : List AnyStep) (replies : List Reply) (mid : FileTrace N E F D Q)
+        (more : List AnyStep) (later : List Reply) (w : FileTrace N E F D Q) → FileRunGives contents failed sg road v steps replies mid →
         FileRunGives contents failed sg road mid more later w →
         FileRunGives contents failed sg road v (steps ++ more) (replies ++ later) w
 
   -- what becomes of replies, sinks and files in a run, however its steps were called
-  abbrev pub EachRunIsReady : Ghosts N → (E → Settings → PlainContext → PlainEvent → Option (List ℕ)) → FilterGhosts F →
+  abbrev pub EachRunIsReady : (Q → List ℕ → Fate → Q → Type 0) → Ghosts N → (E → Settings → PlainContext → PlainEvent → Option (List ℕ)) → FilterGhosts F →
       LayerGhosts (Lines N E) → Type 0
-  EachRunIsReady n line_of g h = (road : Road) (v : FileTrace N E F D) (steps : List AnyStep)
-      (replies : List Reply) (w : FileTrace N E F D) → FileRunGives contents failed sg road v steps replies w →
-      RunsReady contents failed n line_of g h road v steps replies w
+  EachRunIsReady settles n line_of g h = (road : Road) (v : FileTrace N E F D Q) (steps : List AnyStep)
+      (replies : List Reply) (w : FileTrace N E F D Q) → FileRunGives contents failed sg road v steps replies w →
+      RunsReady contents failed settles n line_of g h road v steps replies w

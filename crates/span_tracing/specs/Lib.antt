@@ -59,6 +59,7 @@ pub use Rattle.span_tracing_outputs.specs.files.Threads
 pub use Rattle.span_tracing_outputs.specs.sinks.AnySinks
 pub use Rattle.span_tracing_outputs.specs.sinks.Fates
 pub use Rattle.span_tracing_outputs.specs.sinks.LinesInFiles
+pub use Rattle.span_tracing_outputs.specs.sinks.LiveSinks
 pub use Rattle.span_tracing_outputs.specs.sinks.OutputRuns
 pub use Rattle.span_tracing_outputs.specs.sinks.QueueFiles
 pub use Rattle.span_tracing_outputs.specs.sinks.Routed
@@ -68,6 +69,7 @@ pub use Rattle.span_tracing_outputs.specs.sinks.SinkTurns
 pub use Rattle.span_tracing_outputs.specs.sinks.Takes
 pub use Rattle.span_tracing_outputs.specs.declared.files.output_spec.OutputSpec
 pub use Rattle.span_tracing_outputs.specs.declared.sinks.any_sink.AnySink
+pub use Rattle.span_tracing_outputs.specs.declared.sinks.live.LiveSink
 pub use Rattle.span_tracing_outputs.specs.declared.sinks.sink.RollingSink
 pub use Rattle.span_tracing_laws.specs.json_runs.JsonRuns
 pub use Rattle.span_tracing_laws.specs.queue_steps.SinkPlaces
@@ -86,6 +88,8 @@ pub use Rattle.span_tracing_outputs.specs.declared.files.open_error.OpenStackErr
 pub use Rattle.span_tracing_outputs.specs.declared.files.output_spec.SinkSpec
 pub use Rattle.span_tracing_skeleton.specs.declared.call.Parent
 pub use Rattle.span_tracing_skeleton.specs.declared.call.SpanName
+pub use Rattle.tracing_appender.specs.background.Live
+pub use Rattle.tracing_appender_queue.specs.declared.queued.fate.Fate
 pub use Rattle.tracing_appender_rolling.specs.folders.Contents
 pub use Rattle.tracing_appender_rolling.specs.Builders
 pub use Rattle.tracing_appender_rolling.specs.FaultReports

@@ -19,17 +19,17 @@ use Rattle.span_tracing_skeleton.specs.Skeleton.{Own, Unset}
 use Rattle.span_tracing_laws.specs.runs.KeptStacks.{StackStays}
 use Rattle.span_tracing_laws.specs.runs.StepFollows.{Traced, skeleton_of}
 
-module _ {F D : Type 0} (contents : D → Option Contents) (failed : D → ℕ) (g : FilterGhosts F) (h : LayerGhosts Shown) (m : Moment) where
+module _ {F D Q : Type 0} (contents : D → Option Contents) (failed : D → ℕ) (g : FilterGhosts F) (h : LayerGhosts Shown) (m : Moment) where
   -- the stack is there. Its outputs and sinks are those of a new stack of these outputs, whose files were opened at the moment, and
   -- its registry is that of the new stack, without a span
-  abbrev pub HasOutputs : List (OutputSpec F D) → Option (TraceStackValue Fields (Format LineFormat Timer) F (Routed (AnySink D))) →
+  abbrev pub HasOutputs : List (OutputSpec F D Q) → Option (TraceStackValue Fields (Format LineFormat Timer) F (Routed (AnySink D Q))) →
       Type 0
   HasOutputs specs stack =
-      (made : TraceStackValue Fields (Format LineFormat Timer) F (Routed (AnySink D))) ×
+      (made : TraceStackValue Fields (Format LineFormat Timer) F (Routed (AnySink D Q))) ×
       OpensStack contents failed g h m [] specs made × StackStays (Some made) stack
 
 -- how many sinks outputs ask for; the number stops at the greatest one
-abbrev pub sinks_asked : {F D : Type 0} → List (OutputSpec F D) → ℕ
+abbrev pub sinks_asked : {F D Q : Type 0} → List (OutputSpec F D Q) → ℕ
 sinks_asked [] = 0
 sinks_asked (spec ∷ specs) = min (sinks_asked specs + length spec.sinks.items) 18446744073709551615
 

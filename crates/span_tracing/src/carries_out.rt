@@ -13,11 +13,12 @@ use span_tracing_shared::{CarriesOut, Mask};
 use span_tracing_skeleton::{Reply, SpanName, Step};
 use span_tracing_steps::TraceTable;
 use std::alloc::AllocError;
+use tracing_appender::LiveQueue;
 use tracing_appender_rolling::Folder;
 use tracing_core_fields::{Id, Subscriber};
 
-impl<N: FormatFields + Drop, E: FormatEvent, F: Filter, D: Folder> Trace<
-    TraceStack<N, E, F, RoutedSinks<AnySink<D>>>,
+impl<N: FormatFields + Drop, E: FormatEvent, F: Filter, D: Folder, Q: LiveQueue> Trace<
+    TraceStack<N, E, F, RoutedSinks<AnySink<D, Q>>>,
 > {
     // What filters answered to a step that was just taken, by its reply.
     fn mask_of(&self, reply: &Reply) -> Mask
@@ -45,8 +46,8 @@ impl<N: FormatFields + Drop, E: FormatEvent, F: Filter, D: Folder> Trace<
     }
 }
 
-impl<N: FormatFields + Drop, E: FormatEvent, F: Filter, D: Folder> CarriesOut
-    for Trace<TraceStack<N, E, F, RoutedSinks<AnySink<D>>>> {
+impl<N: FormatFields + Drop, E: FormatEvent, F: Filter, D: Folder, Q: LiveQueue> CarriesOut
+    for Trace<TraceStack<N, E, F, RoutedSinks<AnySink<D, Q>>>> {
     ghost use Rattle.span_tracing.specs.CarriedSteps.{mask_of};
     ghost use Rattle.span_tracing.specs.Ready.{IsStep};
     ghost use Rattle.span_tracing_laws.specs.runs.StepFollows.{TraceIsReady, skeleton_of};
@@ -62,8 +63,8 @@ impl<N: FormatFields + Drop, E: FormatEvent, F: Filter, D: Folder> CarriesOut
 
     // It is a step of the trace, and of a new span the mask says which outputs see it.
 
-    ghost gives = { λ v step reply mask w. IsStep D.contents D.failed
-        ⟦<TraceStack<N, E, F, RoutedSinks<AnySink<D>>> as Subscriber>⟧ ⟦<N as FormatFields>⟧ E.line_of ⟦<F as Filter>⟧
+    ghost gives = { λ v step reply mask w. IsStep D.contents D.failed Q.settles
+        ⟦<TraceStack<N, E, F, RoutedSinks<AnySink<D, Q>>> as Subscriber>⟧ ⟦<N as FormatFields>⟧ E.line_of ⟦<F as Filter>⟧
         ⟦<Layer<N, E, PendingLines> as span_registry_layers_layers::Layer>⟧ v step reply w × (mask ≡ mask_of reply w) };
 
     fn start(&self) -> Result<TraceTable, AllocError> {
@@ -75,7 +76,7 @@ impl<N: FormatFields + Drop, E: FormatEvent, F: Filter, D: Folder> CarriesOut
     }
 
     fn carry_out(&mut self, step: &Step) -> (Reply, Mask) {
-        plain_steps_follow::<N, E, F, RoutedSinks<AnySink<D>>>();
+        plain_steps_follow::<N, E, F, RoutedSinks<AnySink<D, Q>>>();
         let reply = self.step(step);
         let mask = self.mask_of(&reply);
         (reply, mask)

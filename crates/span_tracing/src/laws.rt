@@ -12,10 +12,10 @@ use event_formatter::FormatEvent;
 use event_formatter_text::FormatFields;
 use span_registry_layers_layers::{Filter, Layer};
 pub use span_tracing_laws::{
-    calls_may_change_places, files_stay_harmless, formats_write_harmless_lines,
+    calls_may_change_places, faults_stay_apart, files_stay_harmless, formats_write_harmless_lines,
     harmless_formats_fill_files, harmless_outputs_fill_files, harmless_outputs_run,
-    harmless_runs_fill_files, kept_texts_are_harmless, nothing_is_starved, outputs_stay_harmless,
-    queues_count_exactly, timers_are_harmless, work_may_be_cut,
+    harmless_runs_fill_files, isolated, kept_texts_are_harmless, nothing_is_starved,
+    outputs_stay_harmless, queues_count_exactly, timers_are_harmless, work_may_be_cut,
 };
 use span_tracing_outputs::PendingLines;
 use tracing_core_fields::LevelFilter;
@@ -30,9 +30,9 @@ pub fn levels_are_honest<L: Layer>()
 
 /// Levels are honest filters of outputs whose files aren't open yet. So a stack that `open_stack` makes of them is ready.
 #[tactic(auto, using(crate::proofs::Levels::every_of_all))]
-pub fn leveled_outputs_are_honest<D>()
-    ensures { (outputs : List (OutputSpec LevelFilter D)) →
-        Every (λ (spec : OutputSpec LevelFilter D). ⟦<LevelFilter as Filter>⟧.honest spec.filter) outputs }
+pub fn leveled_outputs_are_honest<D, Q>()
+    ensures { (outputs : List (OutputSpec LevelFilter D Q)) →
+        Every (λ (spec : OutputSpec LevelFilter D Q). ⟦<LevelFilter as Filter>⟧.honest spec.filter) outputs }
 {}
 
 /// A new trace is ready. A lane leaves a ready trace so, and so does taking a stack that was released. With `setup_follows` a trace is

@@ -20,6 +20,7 @@ use span_tracing_outputs::{
 };
 use span_tracing_skeleton::{Refusal, Reply, Step};
 use std::alloc::Global;
+use tracing_appender::LiveQueue;
 use tracing_appender_rolling::Folder;
 use tracing_core_moments::Moment;
 
@@ -30,11 +31,11 @@ use tracing_core_moments::Moment;
 /// # Errors
 ///
 /// Those of [`open_stack`](crate::open_stack).
-pub fn open_trace<F: Filter, D: Folder>(
+pub fn open_trace<F: Filter, D: Folder, Q: LiveQueue>(
     alloc: Global,
-    outputs: Vec<OutputSpec<F, D>>,
+    outputs: Vec<OutputSpec<F, D, Q>>,
     moment: Moment,
-) -> Result<Trace<FileStack<F, D>>, OpenStackError>
+) -> Result<Trace<FileStack<F, D, Q>>, OpenStackError>
     // A moment out of range is refused, whatever else is wrong.
     ensures moment { is_moment moment ≡ false → result ≡ Err (of_all Refusal.BadMoment) }
     // At a moment in range, no output, more than 64 outputs, or two with one key are refused; out of memory may be answered instead.
@@ -45,11 +46,11 @@ pub fn open_trace<F: Filter, D: Folder>(
     ensures names { is_moment moment ≡ true → outputs_refusal outputs.items ≡ None → Every IsRouted outputs.items →
         NamesAnswer D.failed outputs.items result }
     // With honest filters the trace is ready.
-    ensures ready { Every (λ (spec : OutputSpec F D). F.honest spec.filter) outputs.items →
+    ensures ready { Every (λ (spec : OutputSpec F D Q). F.honest spec.filter) outputs.items →
         IfOk result (λ trace. TraceIsReady ⟦<F as Filter>⟧ ⟦<Lines as span_registry_layers_layers::Layer>⟧ trace) }
     // With honest filters the trace's outputs and sinks are those that were asked for, under their keys, filters, settings and routes,
     // with their files open, and no span is open.
-    ensures opened { Every (λ (spec : OutputSpec F D). F.honest spec.filter) outputs.items →
+    ensures opened { Every (λ (spec : OutputSpec F D Q). F.honest spec.filter) outputs.items →
         IfOk result (λ trace. HasOutputs D.contents D.failed ⟦<F as Filter>⟧ ⟦<Lines as span_registry_layers_layers::Layer>⟧ moment
         outputs.items (stack_in trace 0)) }
     // Its outputs have the numbers from 0 to below their count.
@@ -57,7 +58,7 @@ pub fn open_trace<F: Filter, D: Folder>(
     // So have its sinks, through all outputs.
     ensures sinks { IfOk result (λ trace. trace.sinks ≡ sinks_asked outputs.items ∷ []) }
     // With honest filters its stack is held by as many as it counts.
-    ensures counted { Every (λ (spec : OutputSpec F D). F.honest spec.filter) outputs.items →
+    ensures counted { Every (λ (spec : OutputSpec F D Q). F.honest spec.filter) outputs.items →
         IfOk result (λ trace. IsCounted (skeleton_of trace)) }
     // No callsite is registered.
     ensures bare { IfOk result (λ trace. trace.hub.callsites ≡ []) }
@@ -66,10 +67,10 @@ pub fn open_trace<F: Filter, D: Folder>(
     // The lane is the only one.
     ensures lane { IfOk result (λ trace. trace.threads ≡ record { name = None; number = 1 } ∷ []) }
 {
-    setup_follows::<Fields, Format<LineFormat, Timer>, F, RoutedSinks<AnySink<D>>>();
-    traces_start_ready::<Fields, Format<LineFormat, Timer>, F, RoutedSinks<AnySink<D>>>();
-    plain_steps_follow::<Fields, Format<LineFormat, Timer>, F, RoutedSinks<AnySink<D>>>();
-    traces_stay_counted::<Fields, Format<LineFormat, Timer>, F, D>();
+    setup_follows::<Fields, Format<LineFormat, Timer>, F, RoutedSinks<AnySink<D, Q>>>();
+    traces_start_ready::<Fields, Format<LineFormat, Timer>, F, RoutedSinks<AnySink<D, Q>>>();
+    plain_steps_follow::<Fields, Format<LineFormat, Timer>, F, RoutedSinks<AnySink<D, Q>>>();
+    traces_stay_counted::<Fields, Format<LineFormat, Timer>, F, D, Q>();
     let stack = open_stack(alloc, outputs, moment)?;
     let mut trace = Trace::new(alloc);
     let Ok(_lane) = trace.thread(None, 1) else {

@@ -9,6 +9,7 @@ use event_formatter::FormatEvent;
 use event_formatter_text::FormatFields;
 use span_registry_layers_layers::Filter;
 use span_tracing_outputs::{AnySink, LineSink, RoutedSinks, TraceStack};
+use tracing_appender::LiveQueue;
 use tracing_appender_rolling::Folder;
 
 // How many texts and lines the output at a place of a stack missed before its sinks.
@@ -25,7 +26,7 @@ fn starved_in<N: FormatFields + Drop, E: FormatEvent, F: Filter, S: LineSink>(
 }
 
 // How many lines found no memory at sinks, beside what was missed before.
-fn missed_by_all<D: Folder>(before: usize, sinks: &[AnySink<D>]) -> usize
+fn missed_by_all<D: Folder, Q: LiveQueue>(before: usize, sinks: &[AnySink<D, Q>]) -> usize
     ensures { result ≡ missed_by_all before sinks.now }
 {
     let mut missed = before;
@@ -36,8 +37,8 @@ fn missed_by_all<D: Folder>(before: usize, sinks: &[AnySink<D>]) -> usize
 }
 
 // What a sink that had memory lost: lines that its folder didn't take whole; of a queued one also lines that it dropped, that came to its
-// closed queue, and those behind its mark.
-fn lost_by<D: Folder>(sink: &AnySink<D>) -> usize
+// closed queue, and those behind its mark; of a live one those that came to its closed queue.
+fn lost_by<D: Folder, Q: LiveQueue>(sink: &AnySink<D, Q>) -> usize
     ensures { result ≡ lost_by sink.now }
 {
     match sink {
@@ -46,11 +47,12 @@ fn lost_by<D: Folder>(sink: &AnySink<D>) -> usize
             .dropped_lines()
             .saturating_add(sink.faults().writes)
             .saturating_add(sink.queue().left() as usize),
+        AnySink::Live(sink) => sink.lost(),
     }
 }
 
 // What sinks lost so, beside what was lost before.
-fn lost_by_all<D: Folder>(before: usize, sinks: &[AnySink<D>]) -> usize
+fn lost_by_all<D: Folder, Q: LiveQueue>(before: usize, sinks: &[AnySink<D, Q>]) -> usize
     ensures { result ≡ lost_by_all before sinks.now }
 {
     let mut lost = before;
@@ -79,8 +81,8 @@ impl<N: FormatFields + Drop, E: FormatEvent, F: Filter, S: LineSink> Trace<
     }
 }
 
-impl<N: FormatFields + Drop, E: FormatEvent, F: Filter, D: Folder> Trace<
-    TraceStack<N, E, F, RoutedSinks<AnySink<D>>>,
+impl<N: FormatFields + Drop, E: FormatEvent, F: Filter, D: Folder, Q: LiveQueue> Trace<
+    TraceStack<N, E, F, RoutedSinks<AnySink<D, Q>>>,
 > {
     /// How many texts of spans and lines the output with this number missed where memory ran out, before its sinks or at one of them, at
     /// most `usize::MAX`. A line that found no memory at two sinks counts twice. Outputs are numbered from 0 through all stacks. The stack
@@ -101,7 +103,8 @@ impl<N: FormatFields + Drop, E: FormatEvent, F: Filter, D: Folder> Trace<
 
     /// How many texts and lines of the output with this number are missing in its files, at most `usize::MAX`: those that found no memory
     /// ([`starved`](Trace::starved)), lines that a folder didn't take whole, and lines that a queue dropped, that came to it once it was
-    /// closed, or that stood behind its mark then. Lines that wait aren't counted, nor held ones that were given up. A line that is missing
+    /// closed, or that stood behind its mark then. Lines that wait aren't counted, nor held ones that were given up, nor what became of lines
+    /// in a live queue. A line that is missing
     /// at two sinks counts twice. The stack may have been released, as long as it isn't taken.
     pub fn lost(&self, output: usize) -> Option<usize>
         ensures { result ≡ lost_at self.now output }

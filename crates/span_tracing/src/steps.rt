@@ -24,6 +24,7 @@ use span_tracing_skeleton::{
 };
 use span_tracing_steps::{RecordRequest, Request};
 use std::alloc::AllocError;
+use tracing_appender::LiveQueue;
 use tracing_appender_rolling::Folder;
 use tracing_core_fields::{Identifier, IndexedValues, LentValue, Subscriber};
 use tracing_core_moments::Moment;
@@ -136,14 +137,14 @@ impl<T: Subscriber + HasRegistry + HasOutputs + HasSinks> Trace<T> {
     }
 }
 
-impl<N: FormatFields + Drop, E: FormatEvent, F: Filter, D: Folder> Trace<
-    TraceStack<N, E, F, RoutedSinks<AnySink<D>>>,
+impl<N: FormatFields + Drop, E: FormatEvent, F: Filter, D: Folder, Q: LiveQueue> Trace<
+    TraceStack<N, E, F, RoutedSinks<AnySink<D, Q>>>,
 > {
     /// Makes the stack with this handle the one that lanes reach which have no default of their own. It holds the stack from then on, and
     /// is set once: refused where it was set (`GlobalSet`), and for a handle that isn't there or is spent. Takes no memory.
     pub fn set_global_default(&mut self, handle: usize) -> Reply
-        ensures { IsStep D.contents D.failed ⟦<TraceStack<N, E, F, RoutedSinks<AnySink<D>>> as Subscriber>⟧ ⟦<N as FormatFields>⟧ E.line_of
-            ⟦<F as Filter>⟧ ⟦<Layer<N, E, PendingLines> as span_registry_layers_layers::Layer>⟧ self.old
+        ensures { IsStep D.contents D.failed Q.settles ⟦<TraceStack<N, E, F, RoutedSinks<AnySink<D, Q>>> as Subscriber>⟧
+            ⟦<N as FormatFields>⟧ E.line_of ⟦<F as Filter>⟧ ⟦<Layer<N, E, PendingLines> as span_registry_layers_layers::Layer>⟧ self.old
             (OfTrace (GlobalStep handle)) result self.new }
     {
         self.step(&Step::SetGlobalDefault(handle))
@@ -153,8 +154,8 @@ impl<N: FormatFields + Drop, E: FormatEvent, F: Filter, D: Folder> Trace<
     /// nothing. Answers the number of a guard that keeps the default before. Refused for a lane or a handle that isn't there, a spent
     /// handle, and where the stack has too many holders or there is no memory for the guard.
     pub fn set_default(&mut self, lane: usize, handle: Option<usize>) -> Reply
-        ensures { IsStep D.contents D.failed ⟦<TraceStack<N, E, F, RoutedSinks<AnySink<D>>> as Subscriber>⟧ ⟦<N as FormatFields>⟧ E.line_of
-            ⟦<F as Filter>⟧ ⟦<Layer<N, E, PendingLines> as span_registry_layers_layers::Layer>⟧ self.old
+        ensures { IsStep D.contents D.failed Q.settles ⟦<TraceStack<N, E, F, RoutedSinks<AnySink<D, Q>>> as Subscriber>⟧
+            ⟦<N as FormatFields>⟧ E.line_of ⟦<F as Filter>⟧ ⟦<Layer<N, E, PendingLines> as span_registry_layers_layers::Layer>⟧ self.old
             (OfTrace (DefaultStep (record { lane = lane; handle = handle }))) result self.new }
     {
         self.step(&Step::SetDefault(DefaultCall { lane, handle }))
@@ -164,8 +165,8 @@ impl<N: FormatFields + Drop, E: FormatEvent, F: Filter, D: Folder> Trace<
     /// the lane had holds its stack no more; where nobody else does, the stack is released. Refused for a lane that isn't there, and for a
     /// guard that is spent or isn't this lane's (`WrongLane`). Takes no memory.
     pub fn reset_default(&mut self, lane: usize, guard: usize) -> Reply
-        ensures { IsStep D.contents D.failed ⟦<TraceStack<N, E, F, RoutedSinks<AnySink<D>>> as Subscriber>⟧ ⟦<N as FormatFields>⟧ E.line_of
-            ⟦<F as Filter>⟧ ⟦<Layer<N, E, PendingLines> as span_registry_layers_layers::Layer>⟧ self.old
+        ensures { IsStep D.contents D.failed Q.settles ⟦<TraceStack<N, E, F, RoutedSinks<AnySink<D, Q>>> as Subscriber>⟧
+            ⟦<N as FormatFields>⟧ E.line_of ⟦<F as Filter>⟧ ⟦<Layer<N, E, PendingLines> as span_registry_layers_layers::Layer>⟧ self.old
             (OfTrace (ResetStep (record { lane = lane; guard = guard }))) result self.new }
     {
         self.step(&Step::ResetDefault(ResetCall { lane, guard }))
@@ -174,8 +175,8 @@ impl<N: FormatFields + Drop, E: FormatEvent, F: Filter, D: Folder> Trace<
     /// Takes one more handle of the stack with this handle, and answers its number. Refused for a handle that isn't there or is spent, and
     /// where the stack has too many holders or there is no memory.
     pub fn clone_handle(&mut self, handle: usize) -> Reply
-        ensures { IsStep D.contents D.failed ⟦<TraceStack<N, E, F, RoutedSinks<AnySink<D>>> as Subscriber>⟧ ⟦<N as FormatFields>⟧ E.line_of
-            ⟦<F as Filter>⟧ ⟦<Layer<N, E, PendingLines> as span_registry_layers_layers::Layer>⟧ self.old
+        ensures { IsStep D.contents D.failed Q.settles ⟦<TraceStack<N, E, F, RoutedSinks<AnySink<D, Q>>> as Subscriber>⟧
+            ⟦<N as FormatFields>⟧ E.line_of ⟦<F as Filter>⟧ ⟦<Layer<N, E, PendingLines> as span_registry_layers_layers::Layer>⟧ self.old
             (OfTrace (CloneHandleStep handle)) result self.new }
     {
         self.step(&Step::CloneHandle(handle))
@@ -184,8 +185,8 @@ impl<N: FormatFields + Drop, E: FormatEvent, F: Filter, D: Folder> Trace<
     /// Spends a handle. Where nobody else holds its stack, the stack is released, and waits for
     /// [`take_retired`](Trace::take_retired). Refused for a handle that isn't there or is spent. Takes no memory.
     pub fn release(&mut self, handle: usize) -> Reply
-        ensures { IsStep D.contents D.failed ⟦<TraceStack<N, E, F, RoutedSinks<AnySink<D>>> as Subscriber>⟧ ⟦<N as FormatFields>⟧ E.line_of
-            ⟦<F as Filter>⟧ ⟦<Layer<N, E, PendingLines> as span_registry_layers_layers::Layer>⟧ self.old
+        ensures { IsStep D.contents D.failed Q.settles ⟦<TraceStack<N, E, F, RoutedSinks<AnySink<D, Q>>> as Subscriber>⟧
+            ⟦<N as FormatFields>⟧ E.line_of ⟦<F as Filter>⟧ ⟦<Layer<N, E, PendingLines> as span_registry_layers_layers::Layer>⟧ self.old
             (OfTrace (ReleaseStep handle)) result self.new }
     {
         self.step(&Step::Release(handle))
@@ -195,8 +196,8 @@ impl<N: FormatFields + Drop, E: FormatEvent, F: Filter, D: Folder> Trace<
     /// open span has already stay as they are. Outputs are numbered from 0 through all stacks, in the order in which they were added.
     /// Refused for an output that isn't there (`NoOutput`), and for one of a released stack. Takes no memory.
     pub fn set_ansi(&mut self, output: usize, has_styles: bool) -> Reply
-        ensures { IsStep D.contents D.failed ⟦<TraceStack<N, E, F, RoutedSinks<AnySink<D>>> as Subscriber>⟧ ⟦<N as FormatFields>⟧ E.line_of
-            ⟦<F as Filter>⟧ ⟦<Layer<N, E, PendingLines> as span_registry_layers_layers::Layer>⟧ self.old
+        ensures { IsStep D.contents D.failed Q.settles ⟦<TraceStack<N, E, F, RoutedSinks<AnySink<D, Q>>> as Subscriber>⟧
+            ⟦<N as FormatFields>⟧ E.line_of ⟦<F as Filter>⟧ ⟦<Layer<N, E, PendingLines> as span_registry_layers_layers::Layer>⟧ self.old
             (OfTrace (SetStep (record { output = output; setting = Ansi has_styles }))) result self.new }
     {
         self.step(&Step::Set(SettingCall {
@@ -208,8 +209,8 @@ impl<N: FormatFields + Drop, E: FormatEvent, F: Filter, D: Folder> Trace<
     /// Sets at which moments of a span an output has a line for it. Whether the line of a close shows the span's times is settled when the
     /// span is made. Outputs are numbered, and refused, as by [`set_ansi`](Trace::set_ansi). Takes no memory.
     pub fn set_span_events(&mut self, output: usize, events: FmtSpan) -> Reply
-        ensures { IsStep D.contents D.failed ⟦<TraceStack<N, E, F, RoutedSinks<AnySink<D>>> as Subscriber>⟧ ⟦<N as FormatFields>⟧ E.line_of
-            ⟦<F as Filter>⟧ ⟦<Layer<N, E, PendingLines> as span_registry_layers_layers::Layer>⟧ self.old
+        ensures { IsStep D.contents D.failed Q.settles ⟦<TraceStack<N, E, F, RoutedSinks<AnySink<D, Q>>> as Subscriber>⟧
+            ⟦<N as FormatFields>⟧ E.line_of ⟦<F as Filter>⟧ ⟦<Layer<N, E, PendingLines> as span_registry_layers_layers::Layer>⟧ self.old
             (OfTrace (SetStep (record { output = output; setting = SpanEvents (moments_of events) }))) result self.new }
     {
         self.step(&Step::Set(SettingCall {
@@ -228,8 +229,8 @@ impl<N: FormatFields + Drop, E: FormatEvent, F: Filter, D: Folder> Trace<
         parent: Parent,
         values: &[LentValue<'_>],
     ) -> Reply
-        ensures { IsStep D.contents D.failed ⟦<TraceStack<N, E, F, RoutedSinks<AnySink<D>>> as Subscriber>⟧ ⟦<N as FormatFields>⟧ E.line_of
-            ⟦<F as Filter>⟧ ⟦<Layer<N, E, PendingLines> as span_registry_layers_layers::Layer>⟧ self.old
+        ensures { IsStep D.contents D.failed Q.settles ⟦<TraceStack<N, E, F, RoutedSinks<AnySink<D, Q>>> as Subscriber>⟧
+            ⟦<N as FormatFields>⟧ E.line_of ⟦<F as Filter>⟧ ⟦<Layer<N, E, PendingLines> as span_registry_layers_layers::Layer>⟧ self.old
             (OfTrace (EventStep (record {
               lane = lane;
               moment = moment;
@@ -238,7 +239,7 @@ impl<N: FormatFields + Drop, E: FormatEvent, F: Filter, D: Folder> Trace<
               values = lent_entries values.now;
             }))) result self.new }
     {
-        steps_follow::<N, E, F, D>();
+        steps_follow::<N, E, F, D, Q>();
         if self.parts.is_busy() {
             return Reply::Refused(Refusal::Busy);
         }
@@ -255,8 +256,8 @@ impl<N: FormatFields + Drop, E: FormatEvent, F: Filter, D: Folder> Trace<
     /// unless the filters refuse the event itself. It is `false` where the lane reaches no stack. Asking leaves no mark, and takes no
     /// memory.
     pub fn enabled(&mut self, lane: usize, moment: Moment, callsite: Identifier) -> Reply
-        ensures { IsStep D.contents D.failed ⟦<TraceStack<N, E, F, RoutedSinks<AnySink<D>>> as Subscriber>⟧ ⟦<N as FormatFields>⟧ E.line_of
-            ⟦<F as Filter>⟧ ⟦<Layer<N, E, PendingLines> as span_registry_layers_layers::Layer>⟧ self.old
+        ensures { IsStep D.contents D.failed Q.settles ⟦<TraceStack<N, E, F, RoutedSinks<AnySink<D, Q>>> as Subscriber>⟧
+            ⟦<N as FormatFields>⟧ E.line_of ⟦<F as Filter>⟧ ⟦<Layer<N, E, PendingLines> as span_registry_layers_layers::Layer>⟧ self.old
             (OfTrace (EnabledStep (record { lane = lane; moment = moment; callsite = callsite }))) result self.new }
     {
         self.step(&Step::Enabled(EnabledCall {
@@ -277,8 +278,8 @@ impl<N: FormatFields + Drop, E: FormatEvent, F: Filter, D: Folder> Trace<
         parent: Parent,
         values: &[LentValue<'_>],
     ) -> Reply
-        ensures { IsStep D.contents D.failed ⟦<TraceStack<N, E, F, RoutedSinks<AnySink<D>>> as Subscriber>⟧ ⟦<N as FormatFields>⟧ E.line_of
-            ⟦<F as Filter>⟧ ⟦<Layer<N, E, PendingLines> as span_registry_layers_layers::Layer>⟧ self.old
+        ensures { IsStep D.contents D.failed Q.settles ⟦<TraceStack<N, E, F, RoutedSinks<AnySink<D, Q>>> as Subscriber>⟧
+            ⟦<N as FormatFields>⟧ E.line_of ⟦<F as Filter>⟧ ⟦<Layer<N, E, PendingLines> as span_registry_layers_layers::Layer>⟧ self.old
             (OfTrace (SpanStep (record {
               lane = lane;
               moment = moment;
@@ -287,7 +288,7 @@ impl<N: FormatFields + Drop, E: FormatEvent, F: Filter, D: Folder> Trace<
               values = lent_entries values.now;
             }))) result self.new }
     {
-        steps_follow::<N, E, F, D>();
+        steps_follow::<N, E, F, D, Q>();
         if self.parts.is_busy() {
             return Reply::Refused(Refusal::Busy);
         }
@@ -309,12 +310,12 @@ impl<N: FormatFields + Drop, E: FormatEvent, F: Filter, D: Folder> Trace<
         span: Option<SpanName>,
         values: &[LentValue<'_>],
     ) -> Reply
-        ensures { IsStep D.contents D.failed ⟦<TraceStack<N, E, F, RoutedSinks<AnySink<D>>> as Subscriber>⟧ ⟦<N as FormatFields>⟧ E.line_of
-            ⟦<F as Filter>⟧ ⟦<Layer<N, E, PendingLines> as span_registry_layers_layers::Layer>⟧ self.old
+        ensures { IsStep D.contents D.failed Q.settles ⟦<TraceStack<N, E, F, RoutedSinks<AnySink<D, Q>>> as Subscriber>⟧
+            ⟦<N as FormatFields>⟧ E.line_of ⟦<F as Filter>⟧ ⟦<Layer<N, E, PendingLines> as span_registry_layers_layers::Layer>⟧ self.old
             (OfTrace (RecordStep (record { lane = lane; moment = moment; span = span; values = lent_entries values.now })))
             result self.new }
     {
-        steps_follow::<N, E, F, D>();
+        steps_follow::<N, E, F, D, Q>();
         if self.parts.is_busy() {
             return Reply::Refused(Refusal::Busy);
         }
@@ -334,8 +335,8 @@ impl<N: FormatFields + Drop, E: FormatEvent, F: Filter, D: Folder> Trace<
         span: Option<SpanName>,
         follows: Option<SpanName>,
     ) -> Reply
-        ensures { IsStep D.contents D.failed ⟦<TraceStack<N, E, F, RoutedSinks<AnySink<D>>> as Subscriber>⟧ ⟦<N as FormatFields>⟧ E.line_of
-            ⟦<F as Filter>⟧ ⟦<Layer<N, E, PendingLines> as span_registry_layers_layers::Layer>⟧ self.old
+        ensures { IsStep D.contents D.failed Q.settles ⟦<TraceStack<N, E, F, RoutedSinks<AnySink<D, Q>>> as Subscriber>⟧
+            ⟦<N as FormatFields>⟧ E.line_of ⟦<F as Filter>⟧ ⟦<Layer<N, E, PendingLines> as span_registry_layers_layers::Layer>⟧ self.old
             (OfTrace (FollowsFromStep (record { lane = lane; moment = moment; span = span; follows = follows }))) result self.new }
     {
         self.step(&Step::RecordFollowsFrom(FollowsCall {
@@ -348,11 +349,11 @@ impl<N: FormatFields + Drop, E: FormatEvent, F: Filter, D: Folder> Trace<
 
     /// Enters a span on a lane.
     pub fn enter(&mut self, lane: usize, moment: Moment, span: Option<SpanName>) -> Reply
-        ensures { IsStep D.contents D.failed ⟦<TraceStack<N, E, F, RoutedSinks<AnySink<D>>> as Subscriber>⟧ ⟦<N as FormatFields>⟧ E.line_of
-            ⟦<F as Filter>⟧ ⟦<Layer<N, E, PendingLines> as span_registry_layers_layers::Layer>⟧ self.old
+        ensures { IsStep D.contents D.failed Q.settles ⟦<TraceStack<N, E, F, RoutedSinks<AnySink<D, Q>>> as Subscriber>⟧
+            ⟦<N as FormatFields>⟧ E.line_of ⟦<F as Filter>⟧ ⟦<Layer<N, E, PendingLines> as span_registry_layers_layers::Layer>⟧ self.old
             (OfTrace (EnterStep (record { lane = lane; moment = moment; span = span }))) result self.new }
     {
-        steps_follow::<N, E, F, D>();
+        steps_follow::<N, E, F, D, Q>();
         if self.parts.is_busy() {
             return Reply::Refused(Refusal::Busy);
         }
@@ -361,11 +362,11 @@ impl<N: FormatFields + Drop, E: FormatEvent, F: Filter, D: Folder> Trace<
 
     /// Leaves a span on a lane: its last entry there goes.
     pub fn exit(&mut self, lane: usize, moment: Moment, span: Option<SpanName>) -> Reply
-        ensures { IsStep D.contents D.failed ⟦<TraceStack<N, E, F, RoutedSinks<AnySink<D>>> as Subscriber>⟧ ⟦<N as FormatFields>⟧ E.line_of
-            ⟦<F as Filter>⟧ ⟦<Layer<N, E, PendingLines> as span_registry_layers_layers::Layer>⟧ self.old
+        ensures { IsStep D.contents D.failed Q.settles ⟦<TraceStack<N, E, F, RoutedSinks<AnySink<D, Q>>> as Subscriber>⟧
+            ⟦<N as FormatFields>⟧ E.line_of ⟦<F as Filter>⟧ ⟦<Layer<N, E, PendingLines> as span_registry_layers_layers::Layer>⟧ self.old
             (OfTrace (ExitStep (record { lane = lane; moment = moment; span = span }))) result self.new }
     {
-        steps_follow::<N, E, F, D>();
+        steps_follow::<N, E, F, D, Q>();
         if self.parts.is_busy() {
             return Reply::Refused(Refusal::Busy);
         }
@@ -375,8 +376,8 @@ impl<N: FormatFields + Drop, E: FormatEvent, F: Filter, D: Folder> Trace<
     /// Takes one more handle of a span. Refused for a span that isn't open, and where it has as many handles as can be counted
     /// (`TooManyHandles`). Takes no memory.
     pub fn clone_span(&mut self, lane: usize, moment: Moment, span: Option<SpanName>) -> Reply
-        ensures { IsStep D.contents D.failed ⟦<TraceStack<N, E, F, RoutedSinks<AnySink<D>>> as Subscriber>⟧ ⟦<N as FormatFields>⟧ E.line_of
-            ⟦<F as Filter>⟧ ⟦<Layer<N, E, PendingLines> as span_registry_layers_layers::Layer>⟧ self.old
+        ensures { IsStep D.contents D.failed Q.settles ⟦<TraceStack<N, E, F, RoutedSinks<AnySink<D, Q>>> as Subscriber>⟧
+            ⟦<N as FormatFields>⟧ E.line_of ⟦<F as Filter>⟧ ⟦<Layer<N, E, PendingLines> as span_registry_layers_layers::Layer>⟧ self.old
             (OfTrace (CloneStep (record { lane = lane; moment = moment; span = span }))) result self.new }
     {
         self.step(&Step::CloneSpan(SpanCall { lane, moment, span }))
@@ -385,11 +386,11 @@ impl<N: FormatFields + Drop, E: FormatEvent, F: Filter, D: Folder> Trace<
     /// Gives up one handle of a span; answers whether the span closed. Refused (`UnknownSpan`) for a span that isn't open, and for one that
     /// an entry or a child keeps open while it has no handle left.
     pub fn try_close(&mut self, lane: usize, moment: Moment, span: Option<SpanName>) -> Reply
-        ensures { IsStep D.contents D.failed ⟦<TraceStack<N, E, F, RoutedSinks<AnySink<D>>> as Subscriber>⟧ ⟦<N as FormatFields>⟧ E.line_of
-            ⟦<F as Filter>⟧ ⟦<Layer<N, E, PendingLines> as span_registry_layers_layers::Layer>⟧ self.old
+        ensures { IsStep D.contents D.failed Q.settles ⟦<TraceStack<N, E, F, RoutedSinks<AnySink<D, Q>>> as Subscriber>⟧
+            ⟦<N as FormatFields>⟧ E.line_of ⟦<F as Filter>⟧ ⟦<Layer<N, E, PendingLines> as span_registry_layers_layers::Layer>⟧ self.old
             (OfTrace (CloseStep (record { lane = lane; moment = moment; span = span }))) result self.new }
     {
-        steps_follow::<N, E, F, D>();
+        steps_follow::<N, E, F, D, Q>();
         if self.parts.is_busy() {
             return Reply::Refused(Refusal::Busy);
         }
@@ -398,11 +399,11 @@ impl<N: FormatFields + Drop, E: FormatEvent, F: Filter, D: Folder> Trace<
 
     /// Takes a step, and answers its reply.
     pub fn step(&mut self, step: &Step) -> Reply
-        ensures { IsStep D.contents D.failed ⟦<TraceStack<N, E, F, RoutedSinks<AnySink<D>>> as Subscriber>⟧ ⟦<N as FormatFields>⟧ E.line_of
-            ⟦<F as Filter>⟧ ⟦<Layer<N, E, PendingLines> as span_registry_layers_layers::Layer>⟧ self.old
+        ensures { IsStep D.contents D.failed Q.settles ⟦<TraceStack<N, E, F, RoutedSinks<AnySink<D, Q>>> as Subscriber>⟧
+            ⟦<N as FormatFields>⟧ E.line_of ⟦<F as Filter>⟧ ⟦<Layer<N, E, PendingLines> as span_registry_layers_layers::Layer>⟧ self.old
             (any_step step.now) result self.new }
     {
-        steps_follow::<N, E, F, D>();
+        steps_follow::<N, E, F, D, Q>();
         self.act_or_wait(step)
     }
 
@@ -418,17 +419,17 @@ impl<N: FormatFields + Drop, E: FormatEvent, F: Filter, D: Folder> Trace<
     pub fn run(&mut self, steps: &[Step]) -> Result<Vec<Reply>, AllocError>
         // There is one reply for each step, and each step goes as it would alone, from where the one before left the trace.
         ensures gives { IfOk result (λ replies. FileRunGives D.contents D.failed
-            ⟦<TraceStack<N, E, F, RoutedSinks<AnySink<D>>> as Subscriber>⟧ Caching self.old (any_steps steps.now) replies.items self.new) }
+            ⟦<TraceStack<N, E, F, RoutedSinks<AnySink<D, Q>>> as Subscriber>⟧ Caching self.old (any_steps steps.now) replies.items self.new) }
         // Where the trace is ready, replies, sinks and files are as `RunsToFiles` says, and the trace is ready afterwards.
         ensures run { IfOk result
-            (λ replies. RunsReady D.contents D.failed ⟦<N as FormatFields>⟧ E.line_of ⟦<F as Filter>⟧
+            (λ replies. RunsReady D.contents D.failed Q.settles ⟦<N as FormatFields>⟧ E.line_of ⟦<F as Filter>⟧
             ⟦<Layer<N, E, PendingLines> as span_registry_layers_layers::Layer>⟧
             Caching self.old (any_steps steps.now) replies.items self.new) }
         // Where there is no memory for the replies, nothing was done.
         ensures err { OnErr result (self.new ≡ self.old) }
     {
-        runs_follow::<N, E, F, D>();
-        files_follow::<N, E, F, D>();
+        runs_follow::<N, E, F, D, Q>();
+        files_follow::<N, E, F, D, Q>();
         self.run_all(false, steps)
     }
 
@@ -443,17 +444,17 @@ impl<N: FormatFields + Drop, E: FormatEvent, F: Filter, D: Folder> Trace<
         // There is one reply for each step, and each step goes as it would alone once the trace asked anew, from where the
         // one before left it.
         ensures gives { IfOk result (λ replies. FileRunGives D.contents D.failed
-            ⟦<TraceStack<N, E, F, RoutedSinks<AnySink<D>>> as Subscriber>⟧ Asking self.old (any_steps steps.now) replies.items self.new) }
+            ⟦<TraceStack<N, E, F, RoutedSinks<AnySink<D, Q>>> as Subscriber>⟧ Asking self.old (any_steps steps.now) replies.items self.new) }
         // Where the trace is ready, replies, sinks and files are those of the same machine, and the trace is ready afterwards.
         ensures run { IfOk result
-            (λ replies. RunsReady D.contents D.failed ⟦<N as FormatFields>⟧ E.line_of ⟦<F as Filter>⟧
+            (λ replies. RunsReady D.contents D.failed Q.settles ⟦<N as FormatFields>⟧ E.line_of ⟦<F as Filter>⟧
             ⟦<Layer<N, E, PendingLines> as span_registry_layers_layers::Layer>⟧
             Asking self.old (any_steps steps.now) replies.items self.new) }
         // Where there is no memory for the replies, nothing was done.
         ensures err { OnErr result (self.new ≡ self.old) }
     {
-        runs_follow::<N, E, F, D>();
-        files_follow::<N, E, F, D>();
+        runs_follow::<N, E, F, D, Q>();
+        files_follow::<N, E, F, D, Q>();
         self.run_all(true, steps)
     }
 }

@@ -28,6 +28,7 @@ use span_tracing_skeleton::{HasOutputs, HasRegistry, HasSinks, OutputPlace, Refu
 use span_tracing_steps::TraceParts;
 use std::alloc::{AllocError, Global};
 use std::marker::Model;
+use tracing_appender::LiveQueue;
 use tracing_appender_rolling::Folder;
 use tracing_core_fields::{Identifier, Interest, Metadata, Subscriber};
 
@@ -170,8 +171,8 @@ impl<T: Subscriber + HasRegistry> Trace<T> {
     }
 }
 
-impl<N: FormatFields + Drop, E: FormatEvent, F: Filter, D: Folder> Trace<
-    TraceStack<N, E, F, RoutedSinks<AnySink<D>>>,
+impl<N: FormatFields + Drop, E: FormatEvent, F: Filter, D: Folder, Q: LiveQueue> Trace<
+    TraceStack<N, E, F, RoutedSinks<AnySink<D, Q>>>,
 > {
     /// Lets the filter of an output and this one change places. From the next step on the new filter decides which events and new spans the
     /// output is told of. A span that is open stays passed or refused as the filter had it that stood when it was made. Outputs are
@@ -185,18 +186,18 @@ impl<N: FormatFields + Drop, E: FormatEvent, F: Filter, D: Folder> Trace<
         // Else a refused call changes nothing. One that isn't refused lets the filters change places, the stack and maybe others are asked
         // anew, what is kept of callsites and the greatest level are formed anew, and all else stays.
         ensures gives { holds_in (holds outputs_hold) self.old ≡ false →
-            SwapGives ⟦<TraceStack<N, E, F, RoutedSinks<AnySink<D>>> as Subscriber>⟧ registry_of
+            SwapGives ⟦<TraceStack<N, E, F, RoutedSinks<AnySink<D, Q>>> as Subscriber>⟧ registry_of
             (λ x place f y b. StackSwap ⟦<F as Filter>⟧ x place f y b) self.old output filter.old result self.new filter.new }
         // A ready trace stays ready then where the filter is honest. Its skeleton is the same, its stacks are but for that filter and what
         // filters and outputs were last told, and outputs agree with the machines that they agreed with.
         ensures follows { holds_in (holds outputs_hold) self.old ≡ false →
             TraceIsReady ⟦<F as Filter>⟧ ⟦<Layer<N, E, PendingLines> as span_registry_layers_layers::Layer>⟧ self.old →
-            F.honest filter.old → SwapFollows ⟦<N as FormatFields>⟧ E.line_of ⟦<F as Filter>⟧ (TakesRouted (TakesAny D.contents D.failed))
+            F.honest filter.old → SwapFollows ⟦<N as FormatFields>⟧ E.line_of ⟦<F as Filter>⟧ (TakesRouted (TakesAny D.contents D.failed Q.settles))
             ⟦<Layer<N, E, PendingLines> as span_registry_layers_layers::Layer>⟧
-            ⟦<TraceStack<N, E, F, RoutedSinks<AnySink<D>>> as Subscriber>⟧
+            ⟦<TraceStack<N, E, F, RoutedSinks<AnySink<D, Q>>> as Subscriber>⟧
             self.old output filter.old self.new }
     {
-        setup_follows::<N, E, F, RoutedSinks<AnySink<D>>>();
+        setup_follows::<N, E, F, RoutedSinks<AnySink<D, Q>>>();
         if self.parts.is_busy() {
             return Reply::Refused(Refusal::Busy);
         }

@@ -5,3 +5,4 @@ pub mod harmless
 pub mod runs
 pub mod queue_steps
 pub mod starved
+pub mod isolation

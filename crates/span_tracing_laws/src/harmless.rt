@@ -80,19 +80,19 @@ pub fn files_stay_harmless()
 /// have to be known. A direct sink has to have dropped no line in the run. At a queued one no line may have found no memory, and
 /// harmless lines alone may wait before the run; then harmless lines alone wait after it, too. What the file's opening found may not
 /// steer a terminal, as an empty file doesn't, or there was no file.
-pub fn harmless_runs_fill_files<N: FormatFields, E: FormatEvent, F: Filter, D: Folder>()
-    ensures { HarmlessRunsFillFiles D.contents D.failed ⟦<N as FormatFields>⟧ E.line_of ⟦<F as Filter>⟧ }
+pub fn harmless_runs_fill_files<N: FormatFields, E: FormatEvent, F: Filter, D: Folder, Q>()
+    ensures { HarmlessRunsFillFiles Q D.contents D.failed ⟦<N as FormatFields>⟧ E.line_of ⟦<F as Filter>⟧ }
 {
     files_stay_harmless();
 }
 
 /// After a run of steps no file of a sink of a harmless output machine steers a terminal, under the premises of
 /// [`harmless_outputs_run`] on the steps and those of [`harmless_runs_fill_files`] on the sink.
-pub fn harmless_outputs_fill_files<N: FormatFields, E: FormatEvent, F: Filter, D: Folder>()
-    ensures { HarmlessOutputsFillFiles D.contents D.failed ⟦<N as FormatFields>⟧ E.line_of ⟦<F as Filter>⟧ }
+pub fn harmless_outputs_fill_files<N: FormatFields, E: FormatEvent, F: Filter, D: Folder, Q>()
+    ensures { HarmlessOutputsFillFiles Q D.contents D.failed ⟦<N as FormatFields>⟧ E.line_of ⟦<F as Filter>⟧ }
 {
     harmless_outputs_run::<N>();
-    harmless_runs_fill_files::<N, E, F, D>();
+    harmless_runs_fill_files::<N, E, F, D, Q>();
 }
 
 /// After a run of steps no file of a sink of an output in the full, the compact or the pretty format steers a terminal, whatever the
@@ -101,11 +101,11 @@ pub fn harmless_outputs_fill_files<N: FormatFields, E: FormatEvent, F: Filter, D
 /// that of JSON, its texts are sanitized, and it has no styles, nor has its format. The timer's texts may not steer a terminal, as
 /// [`timers_are_harmless`] says of timers, nor may the names of threads, and what was kept of spans before the run may not either, as
 /// nothing does in an output that keeps nothing yet.
-pub fn harmless_formats_fill_files<T: FormatTime + Drop, F: Filter, D: Folder>()
-    ensures { HarmlessFormatsFillFiles D.contents D.failed ⟦<Fields as FormatFields>⟧ ⟦<T as FormatTime>⟧.text_at
+pub fn harmless_formats_fill_files<T: FormatTime + Drop, F: Filter, D: Folder, Q>()
+    ensures { HarmlessFormatsFillFiles Q D.contents D.failed ⟦<Fields as FormatFields>⟧ ⟦<T as FormatTime>⟧.text_at
         ⟦<Format<LineFormat, T> as FormatEvent>⟧.line_of ⟦<F as Filter>⟧ }
 {
     kept_texts_are_harmless();
     formats_write_harmless_lines::<T>();
-    harmless_outputs_fill_files::<Fields, Format<LineFormat, T>, F, D>();
+    harmless_outputs_fill_files::<Fields, Format<LineFormat, T>, F, D, Q>();
 }

@@ -25,8 +25,8 @@ pub fn json_outputs_run<N: FormatFields>()
 /// folder have to be known. A direct sink has to have dropped no line in the run. At a queued one no line may have found no memory, and
 /// objects alone may wait before the run; then objects alone wait after it, too. What the file's opening found has to be made up of such
 /// objects, as an empty file is, or there was no file.
-pub fn json_files_hold_objects<N: FormatFields, E: FormatEvent, F: Filter, D: Folder>()
-    ensures { JsonFilesHoldObjects D.contents D.failed ⟦<N as FormatFields>⟧ E.line_of ⟦<F as Filter>⟧ }
+pub fn json_files_hold_objects<N: FormatFields, E: FormatEvent, F: Filter, D: Folder, Q>()
+    ensures { JsonFilesHoldObjects Q D.contents D.failed ⟦<N as FormatFields>⟧ E.line_of ⟦<F as Filter>⟧ }
 {
     json_outputs_run::<N>();
     files_hold_objects();
@@ -38,10 +38,10 @@ pub fn json_files_hold_objects<N: FormatFields, E: FormatEvent, F: Filter, D: Fo
 /// [`json_files_hold_objects`]. It holds whatever the timer is and whatever parts of a line are shown. Either the output doesn't
 /// tell events that can't be formatted, or each event of the run can be formatted. Before the run the machine has to keep an
 /// object with each span of which it keeps fields, as one does that keeps nothing yet.
-pub fn json_format_files_hold_objects<T: FormatTime + Drop, F: Filter, D: Folder>()
-    ensures { JsonFormatFilesHoldObjects D.contents D.failed ⟦<Fields as FormatFields>⟧
+pub fn json_format_files_hold_objects<T: FormatTime + Drop, F: Filter, D: Folder, Q>()
+    ensures { JsonFormatFilesHoldObjects Q D.contents D.failed ⟦<Fields as FormatFields>⟧
         ⟦<Format<LineFormat, T> as FormatEvent>⟧.line_of ⟦<F as Filter>⟧ }
 {
     json_format_writes_objects::<T>();
-    json_files_hold_objects::<Fields, Format<LineFormat, T>, F, D>();
+    json_files_hold_objects::<Fields, Format<LineFormat, T>, F, D, Q>();
 }

@@ -2,6 +2,7 @@
 #![tactic(auto)]
 
 mod harmless;
+mod isolation;
 mod json;
 mod json_runs;
 mod queue_steps;
@@ -13,6 +14,7 @@ pub use harmless::{
     harmless_outputs_fill_files, harmless_outputs_run, harmless_runs_fill_files,
     kept_texts_are_harmless, outputs_stay_harmless, timers_are_harmless,
 };
+pub use isolation::{faults_stay_apart, isolated};
 pub use json::{
     files_hold_objects, json_format_writes_objects, json_outputs_offer_objects, lines_give_objects,
 };

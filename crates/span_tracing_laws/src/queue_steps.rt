@@ -7,15 +7,15 @@ use tracing_appender_rolling::Folder;
 
 /// Neighbouring calls on the queues of two sinks of a trace may change places, steps of workers each with its own moment: each call is
 /// answered as before, and both leave the same trace.
-pub fn calls_may_change_places<N, E, F, D: Folder>()
-    ensures { TraceCallsMayChangePlaces N E F D.contents D.failed }
+pub fn calls_may_change_places<N, E, F, D: Folder, Q>()
+    ensures { TraceCallsMayChangePlaces N E F Q D.contents D.failed }
 {}
 
 /// A step of a worker over a sink of a trace may be cut in two at its moment, where the sink's folder refuses nothing and takes each write
 /// whole, and no line finds no memory. The two steps leave of the queue and its files what one step of as many lines leaves, and the
 /// numbers of lines that they took add up to its number; everything else in the trace stays as it was.
-pub fn work_may_be_cut<N, E, F, D: Folder>()
-    ensures { TraceWorkMayBeCut N E F D.contents D.failed }
+pub fn work_may_be_cut<N, E, F, D: Folder, Q>()
+    ensures { TraceWorkMayBeCut N E F Q D.contents D.failed }
 {
     tracing_appender_queue::work_may_be_cut();
 }

@@ -10,6 +10,7 @@ use span_registry_layers_layers::Filter;
 use span_tracing_outputs::{
     AnySink, PendingLines, RoutedSinks, each_sink_has_its_run, runs_compose,
 };
+use tracing_appender::LiveQueue;
 use tracing_appender_rolling::Folder;
 
 /// Where the count `Layer::starved` of an output is after a run what it was before, below the greatest number, nothing of the output was
@@ -17,10 +18,16 @@ use tracing_appender_rolling::Folder;
 /// goes on by one for each text and each line that found no memory, up to the greatest number, so it never falls. This holds on each road,
 /// from each plain state that the trace agrees with, also of an output of a stack that was released and isn't taken yet. A step that found
 /// no memory, and did nothing, did nothing there either.
-pub fn nothing_is_starved<N: FormatFields + Drop, E: FormatEvent, F: Filter, D: Folder>()
-    ensures { NothingIsStarved ⟦<N as FormatFields>⟧ E.line_of ⟦<F as Filter>⟧ (TakesRouted (TakesAny D.contents D.failed))
+pub fn nothing_is_starved<
+    N: FormatFields + Drop,
+    E: FormatEvent,
+    F: Filter,
+    D: Folder,
+    Q: LiveQueue,
+>()
+    ensures { NothingIsStarved ⟦<N as FormatFields>⟧ E.line_of ⟦<F as Filter>⟧ (TakesRouted (TakesAny D.contents D.failed Q.settles))
         (CallsIn D.contents D.failed) outputs_hold ⟦<Layer<N, E, PendingLines> as span_registry_layers_layers::Layer>⟧ }
 {
-    runs_compose::<RoutedSinks<AnySink<D>>>();
-    each_sink_has_its_run::<N, E, F, RoutedSinks<AnySink<D>>>();
+    runs_compose::<RoutedSinks<AnySink<D, Q>>>();
+    each_sink_has_its_run::<N, E, F, RoutedSinks<AnySink<D, Q>>>();
 }

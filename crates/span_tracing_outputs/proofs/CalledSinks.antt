@@ -28,14 +28,14 @@ module _ {A : Type 0} (becomes : A → Reply → A → Type 0) where
   count_by place None xs reply after goes = ap length goes.1
   count_by place (Some x) xs reply after goes = ap length goes.2 ∙ length-set xs place goes.0
 
-module _ {D : Type 0} (contents : D → Option Contents) (failed : D → ℕ) where
-  count_at : (o : Option SinkPlace) (call : QueueCall) (olds : List (Routed (AnySink D))) (reply : Reply)
-      (news : List (Routed (AnySink D))) →
+module _ {D Q : Type 0} (contents : D → Option Contents) (failed : D → ℕ) where
+  count_at : (o : Option SinkPlace) (call : QueueCall) (olds : List (Routed (AnySink D Q))) (reply : Reply)
+      (news : List (Routed (AnySink D Q))) →
       CallsAt contents failed o call olds reply news → length news ≡ length olds
   count_at None call olds reply news goes = ap length goes.1
   count_at (Some at) call olds reply news goes =
       count_by (λ o r p. CallsRouted contents failed at.sink call o r p) at.output (slice_get olds at.output) olds reply news goes
 
-  pub calls_keep_count : (number : ℕ) (call : QueueCall) (olds : List (Routed (AnySink D))) (reply : Reply)
-      (news : List (Routed (AnySink D))) → CallsIn contents failed number call olds reply news → length news ≡ length olds
+  pub calls_keep_count : (number : ℕ) (call : QueueCall) (olds : List (Routed (AnySink D Q))) (reply : Reply)
+      (news : List (Routed (AnySink D Q))) → CallsIn contents failed number call olds reply news → length news ≡ length olds
   calls_keep_count number call olds reply news goes = count_at (sink_place olds 0 number) call olds reply news goes

@@ -1,3 +1,4 @@
+pub mod LiveLines
 pub mod SinkKinds
 pub mod Runs
 pub mod OutputRuns

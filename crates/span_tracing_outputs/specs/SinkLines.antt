@@ -1,10 +1,15 @@
 -- Lines that are handed to sinks.
-use Rattle.std.specs.Prelude.{◌≡◌, ℕ, List, [], ◌∷◌, map, Option, Some, None, slice_get, slice_set}
+use Rattle.std.specs.Prelude.{◌≡◌, ◌||◌, ℕ, Bool, false, List, [], ◌∷◌, map, Option, Some, None, slice_get, slice_set}
 use Rattle.tracing_core_moments.specs.declared.at.At.{At}
 use Rattle.span_registry_layers.specs.OutputSlots.{with_layer}
 use Rattle.span_tracing_outputs.specs.OutputMachines.{PlainLine}
 use Rattle.span_tracing_outputs.specs.StackFollows.{LinedStack}
 use Rattle.span_tracing_outputs.specs.Turns.{Lined, Lines}
+
+-- whether a line is held beside a queue of one of these sinks
+abbrev pub some_hold : {S : Type 0} → (S → Bool) → List S → Bool
+some_hold holds [] = false
+some_hold holds (sink ∷ sinks) = holds sink || some_hold holds sinks
 
 -- lines are taken, in order
 abbrev pub TakesAll : {S : Type 0} → (S → At → PlainLine → S → Type 0) → At → List PlainLine → S → S → Type 0
@@ -40,12 +45,16 @@ abbrev pub cleared_at : {N E F : Type 0} → Option (Lined N E F) → ℕ → Li
 cleared_at None place rows = rows
 cleared_at (Some row) place rows = slice_set rows place (cleared_row row)
 
--- the lines of an output went to the sink at a place
+-- lines went to the sink at a place
+abbrev pub TookAt : {S : Type 0} → (S → At → PlainLine → S → Type 0) → At → List PlainLine → ℕ → List S → List S → Type 0
+TookAt {S} takes at lines place sinks sinks_after =
+    (sink : S) × (taken : S) × (slice_get sinks place ≡ Some sink) × TakesAll takes at lines sink taken ×
+    (sinks_after ≡ slice_set sinks place taken)
+
+-- the lines of an output went there
 abbrev pub LinesIf : {N E F S : Type 0} → (S → At → PlainLine → S → Type 0) → At → Option (Lined N E F) → ℕ → List S → List S → Type 0
 LinesIf takes at None place sinks sinks_after = sinks_after ≡ sinks
-LinesIf {S = S} takes at (Some row) place sinks sinks_after =
-    (sink : S) × (taken : S) × (slice_get sinks place ≡ Some sink) × TakesAll takes at row.output.layer.output.maker sink taken ×
-    (sinks_after ≡ slice_set sinks place taken)
+LinesIf takes at (Some row) place sinks sinks_after = TookAt takes at row.output.layer.output.maker place sinks sinks_after
 
 -- the lines of each output went to its sink
 abbrev pub TakesEach : {N E F S : Type 0} → (S → At → PlainLine → S → Type 0) → At → List (Lined N E F) → List S → List S → Type 0

@@ -1,4 +1,5 @@
 pub mod SinkCalls
+pub mod LiveSinks
 pub mod AnySinks
 pub mod Takes
 pub mod Runs

@@ -2,8 +2,9 @@
 ghost use Rattle.std.specs.Prelude.{◌≡◌, ◌<◌, IsTrue, length, map, slice_get};
 ghost use Rattle.span_tracing_outputs.specs.SinkLines.{HandsOver, LinesIf, NoLines, cleared_at, cleared_row};
 
+use crate::output_sinks::OutputSinks;
 use crate::pending::PendingLines;
-use crate::sink::{LineSink, copied, take_all};
+use crate::sink::{LineSink, copied, some_hold, take_all};
 use event_formatter::{FormatEvent, Layer};
 use event_formatter_text::FormatFields;
 use span_registry_layers::Stack;
@@ -66,7 +67,6 @@ fn is_idle<N: FormatFields + Drop, E: FormatEvent, F: Filter>(
 }
 
 // The lines of a lone output go to its sink, without a loop.
-#[inline(never)]
 fn hand_only<N: FormatFields + Drop, E: FormatEvent, F: Filter, S: LineSink>(
     stack: &mut Stack<Filtered<Layer<N, E, PendingLines>, F>>,
     sinks: &mut Vec<S>,
@@ -81,7 +81,6 @@ fn hand_only<N: FormatFields + Drop, E: FormatEvent, F: Filter, S: LineSink>(
 }
 
 // The lines of each of several outputs go to its sink.
-#[inline(never)]
 fn hand_each<N: FormatFields + Drop, E: FormatEvent, F: Filter, S: LineSink>(
     stack: &mut Stack<Filtered<Layer<N, E, PendingLines>, F>>,
     sinks: &mut Vec<S>,
@@ -96,25 +95,39 @@ fn hand_each<N: FormatFields + Drop, E: FormatEvent, F: Filter, S: LineSink>(
     }
 }
 
+// Hands over what outputs keep, and looks once whether a line is held then.
+#[inline(never)]
+fn hand_lists<N: FormatFields + Drop, E: FormatEvent, F: Filter, S: LineSink>(
+    stack: &mut Stack<Filtered<Layer<N, E, PendingLines>, F>>,
+    sinks: &mut OutputSinks<S>,
+    at: At,
+)
+    requires { length sinks.old ≡ length stack.old.rows }
+    ensures { HandsOver S.takes at stack.old sinks.old stack.new sinks.new }
+{
+    if sinks.sinks.len() == 1 {
+        hand_only(stack, &mut sinks.sinks, at);
+    } else {
+        hand_each(stack, &mut sinks.sinks, at);
+    }
+    sinks.holding = some_hold(sinks.sinks.as_slice());
+}
+
 /// Hands the lines that the outputs keep to their sinks, outputs in order, and each output's lines in order. No output
 /// keeps a line afterwards, and nothing else of the stack changes. It needs as
 /// many sinks as outputs.
 // Most calls on spans leave no line at a lone output, which is seen at once.
 #[inline(always)]
-pub fn hand_over<N: FormatFields + Drop, E: FormatEvent, F: Filter, S: LineSink>(
+pub(crate) fn hand_over<N: FormatFields + Drop, E: FormatEvent, F: Filter, S: LineSink>(
     stack: &mut Stack<Filtered<Layer<N, E, PendingLines>, F>>,
-    sinks: &mut Vec<S>,
+    sinks: &mut OutputSinks<S>,
     at: At,
 )
-    requires { length sinks.old.items ≡ length stack.old.rows }
-    ensures { HandsOver S.takes at stack.old sinks.old.items stack.new sinks.new.items }
+    requires { length sinks.old ≡ length stack.old.rows }
+    ensures { HandsOver S.takes at stack.old sinks.old stack.new sinks.new }
 {
-    if sinks.len() != 1 {
-        hand_each(stack, sinks, copied(at));
+    if sinks.len() == 1 && is_idle(stack) {
         return;
     }
-    if is_idle(stack) {
-        return;
-    }
-    hand_only(stack, sinks, copied(at));
+    hand_lists(stack, sinks, copied(at));
 }

@@ -1,15 +1,18 @@
 //! The sinks of a stack's outputs, numbered through all outputs.
 ghost use Rattle.std.specs.Prelude.{◌≡◌};
 ghost use Rattle.std.specs.Option.{option_copied};
-ghost use Rattle.span_tracing_outputs.specs.sinks.SinkCalls.{CallsIn, CallsStack, outputs_hold, sink_in, sink_place, sinks_in, sinks_of};
+ghost use Rattle.span_tracing_outputs.specs.sinks.SinkCalls.{CallsIn, CallsStack, sink_in, sink_place, sinks_in, sinks_of};
 ghost use Rattle.span_tracing_outputs.specs.sinks.SinkCalls.{stack_holds};
 
+use crate::output_sinks::OutputSinks;
+use crate::sink::{LineSink, some_hold};
 use crate::sinks::{AnySink, RoutedSinks};
 use crate::trace_stack::TraceStack;
 use event_formatter::FormatEvent;
 use event_formatter_text::FormatFields;
 use span_registry_layers_layers::Filter;
 use span_tracing_skeleton::{HasSinks, QueueCall, Refusal, Reply};
+use tracing_appender::LiveQueue;
 use tracing_appender_rolling::Folder;
 
 // How many sinks outputs have.
@@ -59,19 +62,9 @@ fn sink_in<S: Drop>(outputs: &[RoutedSinks<S>], number: usize) -> Option<&S>
     }
 }
 
-// Whether a line is held beside the queue of a sink.
-fn is_holding_in<D: Folder>(outputs: &[RoutedSinks<AnySink<D>>]) -> bool
-    ensures { result ≡ outputs_hold outputs.now }
-{
-    match outputs {
-        [] => false,
-        [first, later @ ..] => first.is_holding() || is_holding_in(later),
-    }
-}
-
 // Does this to the queue of the sink with a number.
-fn drive_in<D: Folder>(
-    outputs: &mut [RoutedSinks<AnySink<D>>],
+fn drive_in<D: Folder, Q: LiveQueue>(
+    outputs: &mut [RoutedSinks<AnySink<D, Q>>],
     number: usize,
     call: QueueCall,
 ) -> Reply
@@ -87,7 +80,18 @@ fn drive_in<D: Folder>(
     }
 }
 
-impl<N, E, F, S: Drop> TraceStack<N, E, F, RoutedSinks<S>> {
+impl<D: Folder, Q: LiveQueue> OutputSinks<RoutedSinks<AnySink<D, Q>>> {
+    // Does this to the queue of the sink with a number.
+    fn drive(&mut self, number: usize, call: QueueCall) -> Reply
+        ensures { CallsIn D.contents D.failed number call self.old result self.new }
+    {
+        let reply = drive_in(self.sinks.as_mut_slice(), number, call);
+        self.holding = some_hold(self.sinks.as_slice());
+        reply
+    }
+}
+
+impl<N, E, F, S: LineSink> TraceStack<N, E, F, RoutedSinks<S>> {
     /// The sink with a number: sinks are numbered from 0 through all outputs, in order.
     pub fn sink(&self, number: usize) -> Option<&S>
         ensures { option_copied result ≡ sink_in self.now.sinks number }
@@ -96,8 +100,8 @@ impl<N, E, F, S: Drop> TraceStack<N, E, F, RoutedSinks<S>> {
     }
 }
 
-impl<N: FormatFields + Drop, E: FormatEvent, F: Filter, D: Folder> HasSinks
-    for TraceStack<N, E, F, RoutedSinks<AnySink<D>>> {
+impl<N: FormatFields + Drop, E: FormatEvent, F: Filter, D: Folder, Q: LiveQueue> HasSinks
+    for TraceStack<N, E, F, RoutedSinks<AnySink<D, Q>>> {
     ghost use Rattle.std.proofs.Common.{ap};
     ghost use Rattle.span_tracing_outputs.specs.OutputSettings.{same_word};
 
@@ -116,10 +120,10 @@ impl<N: FormatFields + Drop, E: FormatEvent, F: Filter, D: Folder> HasSinks
     }
 
     fn is_holding(&self) -> bool {
-        is_holding_in(self.sinks.as_slice())
+        self.sinks.is_holding()
     }
 
     fn drive(&mut self, number: usize, call: QueueCall) -> Reply {
-        drive_in(self.sinks.as_mut_slice(), number, call)
+        self.sinks.drive(number, call)
     }
 }

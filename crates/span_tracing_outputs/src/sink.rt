@@ -1,7 +1,7 @@
 //! Where the lines of an output go.
-ghost use Rattle.std.specs.Prelude.{◌≡◌, List, ℕ, map};
+ghost use Rattle.std.specs.Prelude.{◌≡◌, Bool, List, ℕ, map};
 ghost use Rattle.tracing_core_moments.specs.declared.at.At.{At};
-ghost use Rattle.span_tracing_outputs.specs.SinkLines.{TakesAll};
+ghost use Rattle.span_tracing_outputs.specs.SinkLines.{TakesAll, some_hold};
 ghost use Rattle.span_tracing_outputs.specs.OutputMachines.{PlainLine};
 ghost use Rattle.span_tracing_outputs.specs.BufferedLines.{plain_line};
 
@@ -14,9 +14,26 @@ pub trait LineSink: Drop {
     // How it may come out of taking a line at a moment.
     ghost takes: { Self → At → PlainLine → Self → Type 0 };
 
+    // Whether a line is held beside a queue of it.
+    ghost holds: { Self → Bool };
+
     /// Takes a line of this level, at the moment that it is handed over with. A `TraceStack` gives that of its request.
     fn take(&mut self, at: At, level: Level, line: &[u8])
         ensures { takes self.old at (record { level = level; bytes = line.now }) self.new };
+
+    /// Whether a line is held beside a queue of it. While one is, a trace's other steps wait.
+    fn is_holding(&self) -> bool
+        ensures { result ≡ holds self.now };
+}
+
+/// Whether a line is held beside a queue of one of these sinks.
+pub(crate) fn some_hold<S: LineSink>(sinks: &[S]) -> bool
+    ensures { result ≡ some_hold S.holds sinks.now }
+{
+    match sinks {
+        [] => false,
+        [first, later @ ..] => first.is_holding() || some_hold(later),
+    }
 }
 
 /// The same place and moment. Where only the copy is handed to calls that aren't inlined, the compiler keeps `at` in registers.

@@ -2,6 +2,7 @@
 
 mod any_sink;
 mod laws;
+mod live;
 mod routed;
 mod sink;
 
@@ -11,5 +12,6 @@ pub use laws::{
     lines_stand_in_files, queued_lines_stand_in_files, routed_sinks_take_theirs, runs_are_told,
     runs_compose, sinks_meet_theirs,
 };
+pub use live::LiveSink;
 pub use routed::{RoutedSinks, UnroutedSinks};
 pub use sink::RollingSink;

@@ -7,6 +7,7 @@ ghost use Rattle.span_registry_layers.specs.Stacks.{cleared, is_above};
 ghost use Rattle.span_tracing_outputs.specs.TraceStacks.{IsAtRest, NewGives};
 
 use crate::hand::{clear_lines, hand_over};
+use crate::output_sinks::OutputSinks;
 use crate::pending::PendingLines;
 use crate::sink::LineSink;
 use event_formatter::{FormatEvent, Layer};
@@ -24,13 +25,13 @@ use tracing_core_moments::At;
 /// request, after all outputs were told, so that no output keeps a line between requests.
 ///
 /// A contract sees it as a `TraceStackValue`.
-pub struct TraceStack<N, E, F, S> {
+pub struct TraceStack<N, E, F, S: LineSink> {
     pub(crate) stack: Stack<Filtered<Layer<N, E, PendingLines>, F>>,
-    pub(crate) sinks: Vec<S>,
+    pub(crate) sinks: OutputSinks<S>,
 }
 
 /// It is written down, so that whoever lets a stack go needs no proof of his own for each of its parts.
-impl<N: Drop, E: Drop, F: Drop, S: Drop> Drop for TraceStack<N, E, F, S> {
+impl<N: Drop, E: Drop, F: Drop, S: LineSink> Drop for TraceStack<N, E, F, S> {
     fn drop(self) {
         let TraceStack {
             stack: _stack,
@@ -39,14 +40,14 @@ impl<N: Drop, E: Drop, F: Drop, S: Drop> Drop for TraceStack<N, E, F, S> {
     }
 }
 
-impl<N, E, F, S> Model for TraceStack<N, E, F, S> {
+impl<N, E, F, S: LineSink> Model for TraceStack<N, E, F, S> {
     ghost use Rattle.span_tracing_outputs.specs.TraceStacks.{IsAtRest, TraceStackValue};
 
     ghost Value = { TraceStackValue N E F S };
 
-    ghost view = { λ t. record { stack = t.stack; sinks = t.sinks.items } };
+    ghost view = { λ t. record { stack = t.stack; sinks = t.sinks } };
 
-    ghost invariant = { λ t. IsAtRest t.stack t.sinks.items };
+    ghost invariant = { λ t. IsAtRest t.stack t.sinks };
 }
 
 /// There are not as many sinks as outputs. Both are as they were.
@@ -84,7 +85,7 @@ fn seen_in<O>(stack: &Stack<O>, span: &Id) -> [bool; 64]
     seen
 }
 
-impl<N: FormatFields + Drop, E: FormatEvent, F: Filter, S> TraceStack<N, E, F, S> {
+impl<N: FormatFields + Drop, E: FormatEvent, F: Filter, S: LineSink> TraceStack<N, E, F, S> {
     /// Gives each output of a stack the sink at its place. Lines that outputs kept before are forgotten.
     ///
     /// # Errors
@@ -106,11 +107,14 @@ impl<N: FormatFields + Drop, E: FormatEvent, F: Filter, S> TraceStack<N, E, F, S
         }
         let mut stack = stack;
         clear_lines(&mut stack, sinks.len());
-        Ok(TraceStack { stack, sinks })
+        Ok(TraceStack {
+            stack,
+            sinks: OutputSinks::new(sinks),
+        })
     }
 }
 
-impl<N, E, F, S> TraceStack<N, E, F, S> {
+impl<N, E, F, S: LineSink> TraceStack<N, E, F, S> {
     /// The stack of outputs.
     pub fn stack(&self) -> &Stack<Filtered<Layer<N, E, PendingLines>, F>>
         ensures { result.now ≡ self.now.stack }

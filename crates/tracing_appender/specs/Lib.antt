@@ -44,6 +44,8 @@ pub use Rattle.tracing_appender_rolling.specs.LineHandover
 pub use Rattle.tracing_appender_rolling.specs.FilesInOrder
 pub use Rattle.tracing_appender_rolling.specs.FilesByTries
 pub use Rattle.tracing_appender_queue.specs.Queue
+pub use Rattle.tracing_appender_queue.specs.declared.queued.fate.Fate
+pub use Rattle.tracing_appender_queue.specs.queued.LineFates
 pub use Rattle.tracing_appender_queue.specs.Offers
 pub use Rattle.tracing_appender_queue.specs.History
 pub use Rattle.tracing_appender_queue.specs.View

@@ -5,6 +5,7 @@ mod channel;
 mod counter;
 mod guard;
 mod handover;
+mod live;
 mod maker;
 mod output;
 mod sender;
@@ -17,4 +18,5 @@ pub use builder::{
 pub(crate) use channel::Channel;
 pub use counter::ErrorCounter;
 pub use guard::WorkerGuard;
+pub use live::{LiveQueue, NoLive, RecordedQueue};
 pub use sender::NonBlocking;

@@ -19,15 +19,15 @@ mod system;
 mod writer;
 
 pub use background::{
-    DEFAULT_BUFFERED_LINES_LIMIT, ErrorCounter, NonBlocking, NonBlockingBuilder, StartError,
-    StartRefusal, WorkerGuard, non_blocking,
+    DEFAULT_BUFFERED_LINES_LIMIT, ErrorCounter, LiveQueue, NoLive, NonBlocking, NonBlockingBuilder,
+    RecordedQueue, StartError, StartRefusal, WorkerGuard, non_blocking,
 };
 pub use clock::Clock;
 pub use clocked::{Clocked, ClockedAppender};
 pub use fixed::FixedClock;
 pub use system::SystemClock;
 pub use tracing_appender_queue::{
-    Batched, MarkError, Offered, QueueState, Settled, Taken, Written, ZeroLimit, batch,
+    Batched, Fate, MarkError, Offered, QueueState, Settled, Taken, Written, ZeroLimit, batch,
     first_lines_are_taken, queue_is_its_lists, steps_have_one_end, steps_may_be_cut,
 };
 pub use tracing_appender_rolling::{

@@ -111,6 +111,34 @@ fn bytes_go_to_the_file_of_their_hour(rt: HostRuntime) -> Result<(), Fail> {
     Ok(())
 }
 
+/// A clock that goes back, even behind the opening, changes no file. The hours that come again later have no second file.
+#[test]
+fn a_clock_that_goes_back_changes_no_file(rt: HostRuntime) -> Result<(), Fail> {
+    let alloc = rt.alloc();
+    let appender = hourly_files(alloc, MemoryFolder::new(alloc))?;
+    let mut clocked = appender.clocked(FixedClock::new(later(0)?));
+    for (second, line) in [
+        (3_600, b"a\n"),
+        (0, b"b\n"),
+        (-86_400, b"c\n"),
+        (3_700, b"d\n"),
+        (7_200, b"e\n"),
+        (3_600, b"f\n"),
+    ] {
+        clocked.clock_mut().set(later(second)?);
+        hand(&mut clocked, line)?;
+    }
+    let mut writer = clocked.make_writer();
+    put(&mut writer, b"g\n")?;
+    let folder = clocked.appender().folder();
+    assert_eq!(rt; folder.files()?.len(), 3);
+    assert!(rt; holds(folder, "test_make_writer.2020-02-01-10", b"")?);
+    let eleven = b"a\nb\nc\nd\n";
+    assert!(rt; holds(folder, "test_make_writer.2020-02-01-11", eleven)?);
+    assert!(rt; holds(folder, "test_make_writer.2020-02-01-12", b"e\nf\ng\n")?);
+    Ok(())
+}
+
 /// The clock goes on by an hour at each reading.
 #[test]
 fn a_writer_stays_with_its_file(rt: HostRuntime) -> Result<(), Fail> {

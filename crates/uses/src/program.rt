@@ -18,8 +18,9 @@ use span_tracing::laws::{leveled_outputs_are_honest, traces_start_ready};
 use span_tracing::value::{AnyValue, LentValue};
 use span_tracing::{
     AnySink, Builder, Fields, FileStack, Folder, Format, LineFormat, LineSettings, Lines,
-    MemoryFolder, Moment, OutputKey, OutputSpec, Parent, Refusal, Reply, Rotation, Route,
-    RoutedSinks, SinkSpec, Timer, Trace, calls_make_runs, open_stack, setup_follows,
+    LiveQueue, MemoryFolder, Moment, NoLive, OutputKey, OutputSpec, Parent, Refusal, Reply,
+    Rotation, Route, RoutedSinks, SinkSpec, Timer, Trace, calls_make_runs, open_stack,
+    setup_follows,
 };
 use std::alloc::Global;
 use tracing_core::{Identifier, LevelFilter, Subscriber};
@@ -67,7 +68,7 @@ pub(crate) fn stack_of(
     if outputs.push(output).is_err() {
         return Err(Refusal::OutOfMemory);
     }
-    leveled_outputs_are_honest::<MemoryFolder>();
+    leveled_outputs_are_honest::<MemoryFolder, NoLive>();
     open_stack(alloc, outputs, moment).map_err(|refused| refused.refusal)
 }
 
@@ -157,13 +158,13 @@ pub fn log_both(
         ⟦<FileStack<LevelFilter, MemoryFolder> as Subscriber>⟧ Caching trace.old
         (message_step moment callsite.0 first.now ∷ message_step moment callsite.0 second.now ∷ [])
         (result.0 ∷ result.1 ∷ []) trace.new }
-    ensures run { RunsReady ⟦<MemoryFolder as Folder>⟧.contents ⟦<MemoryFolder as Folder>⟧.failed
+    ensures run { RunsReady ⟦<MemoryFolder as Folder>⟧.contents ⟦<MemoryFolder as Folder>⟧.failed ⟦<NoLive as LiveQueue>⟧.settles
         ⟦<Fields as FormatFields>⟧ ⟦<Format<LineFormat, Timer> as FormatEvent>⟧.line_of ⟦<LevelFilter as Filter>⟧
         ⟦<Lines as span_registry_layers::Layer>⟧ Caching trace.old
         (message_step moment callsite.0 first.now ∷ message_step moment callsite.0 second.now ∷ [])
         (result.0 ∷ result.1 ∷ []) trace.new }
 {
-    calls_make_runs::<Fields, Format<LineFormat, Timer>, LevelFilter, MemoryFolder>();
+    calls_make_runs::<Fields, Format<LineFormat, Timer>, LevelFilter, MemoryFolder, NoLive>();
     let parent = Parent::Contextual;
     let reply = trace.event(0, moment, callsite, parent, &[message(first)]);
     let last = trace.event(0, moment, callsite, parent, &[message(second)]);

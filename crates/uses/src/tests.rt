@@ -230,7 +230,7 @@ fn a_program_logs_a_line(rt: HostRuntime) -> Result<(), Fail> {
     let (reply, last) = log_both(&mut trace, MONDAY, Identifier(2), "saved", "sent");
     assert!(rt; reply == Reply::Done && last == Reply::Done);
     let sink = trace.sink(0).ok_or("a sink")?;
-    let files = sink.appender().folder().files()?;
+    let files = sink.appender().ok_or("a folder")?.folder().files()?;
     let file = files.first().ok_or("no file")?;
     assert_eq!(rt; file.name, "app.2025-02-17.log");
     let lines = b" INFO app: finished\n INFO app: saved\n INFO app: sent\n";

@@ -113,13 +113,13 @@ pub(crate) fn output_filtered<F: Filter>(
 }
 
 /// One output from INFO on, over sinks that are still to be opened.
-pub(crate) fn output_over<D: Folder>(
+pub(crate) fn output_over<D: Folder, Q: Drop>(
     alloc: Global,
     key: u32,
     lines: LineSettings,
     route: Route,
-    sinks: Vec<SinkSpec<D>>,
-) -> Result<Vec<OutputSpec<LevelFilter, D>>, Fail> {
+    sinks: Vec<SinkSpec<D, Q>>,
+) -> Result<Vec<OutputSpec<LevelFilter, D, Q>>, Fail> {
     let made = OutputSpec::new(OutputKey(key), LevelFilter::INFO, lines, route, sinks);
     let spec = made.map_err(|refused| refused.error)?;
     let mut outputs = Vec::new(alloc);

@@ -82,7 +82,7 @@ fn has_files(
     wanted: &[(&str, &str)],
 ) -> Result<(), Fail> {
     let sink = trace.sink(sink).ok_or("a sink")?;
-    let files = sink.appender().folder().inner().files()?;
+    let files = sink.appender().ok_or("a folder")?.folder().inner().files()?;
     assert_eq!(rt; files.len(), wanted.len());
     for (file, (name, text)) in files.iter().zip(wanted) {
         assert_eq!(rt; file.name, *name);
@@ -107,7 +107,7 @@ fn a_failed_switch_is_tried_once_a_day(rt: HostRuntime) -> Result<(), Fail> {
         ("app.2025-02-19", "app: c\n"),
     ];
     has_files(&rt, &trace, 0, &wanted)?;
-    let faults = trace.sink(0).ok_or("a sink")?.appender().faults();
+    let faults = trace.sink(0).ok_or("a sink")?.faults();
     assert_eq!(rt;
         (faults.switches, faults.retentions, faults.writes),
         (1, 0, 0)
@@ -140,9 +140,9 @@ fn one_sinks_faults_change_no_other_sink(rt: HostRuntime) -> Result<(), Fail> {
         ("app.2025-02-18", "app: b\n"),
     ];
     has_files(&rt, &trace, 1, &wanted)?;
-    let faults = trace.sink(0).ok_or("a sink")?.appender().faults();
+    let faults = trace.sink(0).ok_or("a sink")?.faults();
     assert_eq!(rt; (faults.switches, faults.writes), (1, 2));
-    let faults = trace.sink(1).ok_or("a sink")?.appender().faults();
+    let faults = trace.sink(1).ok_or("a sink")?.faults();
     assert_eq!(rt; (faults.switches, faults.writes), (0, 0));
     Ok(())
 }

@@ -89,7 +89,7 @@ fn an_earlier_refusal_is_told_first(rt: HostRuntime) -> Result<(), Fail> {
 #[test]
 fn names_are_looked_at_before_folders(rt: HostRuntime) -> Result<(), Fail> {
     let alloc = rt.alloc();
-    let mut sinks = Vec::new(alloc);
+    let mut sinks: Vec<SinkSpec<FaultyFolder>> = Vec::new(alloc);
     for (prefix, refused) in [("a", [1, 3]), ("a/b", [0, 0])] {
         let builder = Builder::new(alloc).filename_prefix(prefix);
         let refused = Vec::from_slice(alloc, &refused)?;
@@ -147,7 +147,7 @@ fn has_file(
 ) -> Result<bool, Fail> {
     let routed = stack.sinks().get(output).ok_or("an output")?;
     let sink = routed.sinks().get(sink).ok_or("a sink")?;
-    let files = sink.appender().folder().files()?;
+    let files = sink.appender().ok_or("a folder")?.folder().files()?;
     Ok(files.len() == 1 && files.iter().any(|file| file.name == name))
 }
 
@@ -197,7 +197,7 @@ fn an_output_with_one_file_is_set_up_by_question_marks(rt: HostRuntime) -> Resul
     let routed = stack.sinks().first().ok_or("an output")?;
     assert_eq!(rt; routed.sinks().len(), 1);
     let sink = routed.sinks().first().ok_or("a sink")?;
-    let files = sink.appender().folder().inner().files()?;
+    let files = sink.appender().ok_or("a folder")?.folder().inner().files()?;
     assert_eq!(rt; files.first().ok_or("a file")?.name, "app.2025-02-17");
     Ok(())
 }

@@ -49,11 +49,15 @@ fn enter_span(stack: &mut Stack<Shown>, level: Level) -> Result<Id, Fail> {
     Ok(span)
 }
 
-fn tell(stack: &mut Stack<Shown>, level: Level, message: &str) -> Result<(), Fail> {
+fn tell<T: Subscriber>(stack: &mut T, level: Level, message: &str) -> Result<(), Fail> {
+    tell_at(stack, level, message, PLACE)
+}
+
+fn tell_at<T: Subscriber>(stack: &mut T, level: Level, message: &str, at: At) -> Result<(), Fail> {
     let fields = FieldSet::new(&NAMES, Identifier(2));
     let metadata = event_at("e", level, fields);
     let values = [Some(AnyValue::Str(message))];
-    Ok(stack.event(&Event::new(&metadata, fields.value_set_all(&values)), PLACE)?)
+    Ok(stack.event(&Event::new(&metadata, fields.value_set_all(&values)), at)?)
 }
 
 // Whether an output keeps just these lines.
@@ -166,11 +170,19 @@ struct KeptLines {
 }
 
 impl LineSink for KeptLines {
+    ghost use Rattle.std.specs.Prelude.{false};
+
     ghost takes = { λ old at line new. Unit {0} };
+
+    ghost holds = { λ _. false };
 
     fn take(&mut self, at: At, _level: Level, line: &[u8]) {
         let _kept = write!(self.text, "{} ", at.lane);
         let _pushed = self.text.push_str(str::from_utf8(line).unwrap_or("?"));
+    }
+
+    fn is_holding(&self) -> bool {
+        false
     }
 }
 
@@ -189,24 +201,25 @@ fn empty_sinks(alloc: Global, count: usize) -> Result<Vec<KeptLines>, Fail> {
 
 #[test]
 fn each_sink_takes_the_lines_of_its_output(rt: HostRuntime) -> Result<(), Fail> {
-    let mut stack = stack_of_two(rt.alloc())?;
-    let mut sinks = empty_sinks(rt.alloc(), 2)?;
-    tell(&mut stack, Level::WARN, "w")?;
-    tell(&mut stack, Level::INFO, "i")?;
-    hand_over(&mut stack, &mut sinks, At { lane: 3, ..PLACE });
-    assert!(rt; keeps(&stack, 0, &[]) && keeps(&stack, 1, &[]));
+    let alloc = rt.alloc();
+    let mut trace = TraceStack::new(stack_of_two(alloc)?, empty_sinks(alloc, 2)?)
+        .ok()
+        .ok_or("pairs")?;
+    let place = At { lane: 3, ..PLACE };
+    tell_at(&mut trace, Level::WARN, "w", place)?;
+    tell_at(&mut trace, Level::INFO, "i", place)?;
+    assert!(rt; keeps(trace.stack(), 0, &[]) && keeps(trace.stack(), 1, &[]));
     assert_eq!(rt;
-        sinks[0].text.as_str(),
+        trace.sinks()[0].text.as_str(),
         "3 fake time  WARN app: w\n3 fake time  INFO app: i\n"
     );
     assert_eq!(rt;
-        sinks[1].text.as_str(),
+        trace.sinks()[1].text.as_str(),
         "3 {\"timestamp\":\"fake time\",\"level\":\"WARN\",\"fields\":{\"message\":\"w\"},\"target\":\"app\"}\n"
     );
-    tell(&mut stack, Level::DEBUG, "d")?;
-    hand_over(&mut stack, &mut sinks, PLACE);
+    tell(&mut trace, Level::DEBUG, "d")?;
     assert_eq!(rt;
-        sinks[0].text.as_str(),
+        trace.sinks()[0].text.as_str(),
         "3 fake time  WARN app: w\n3 fake time  INFO app: i\n0 fake time DEBUG app: d\n"
     );
     Ok(())

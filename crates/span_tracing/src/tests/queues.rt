@@ -119,7 +119,7 @@ fn lines_of_a_waiting_queue_are_held_or_lost(rt: HostRuntime) -> Result<(), Fail
     let sink = trace.sink(0).ok_or("a sink")?;
     assert_eq!(rt; (sink.held(), sink.dropped_lines()), (Some(0), Some(0)));
     assert_eq!(rt; sink.faults().writes, 1);
-    assert_eq!(rt; sink.appender().faults().writes, 0);
+    assert_eq!(rt; sink.appender().ok_or("a folder")?.faults().writes, 0);
     Ok(())
 }
 

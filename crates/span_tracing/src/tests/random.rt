@@ -337,7 +337,7 @@ impl Both {
         for (stack, model) in self.models.iter().enumerate() {
             for (output, text) in model.texts.iter().enumerate() {
                 let sink = self.trace.sink(OUTPUTS * stack + output).ok_or("a sink")?;
-                let files = sink.appender().folder().files()?;
+                let files = sink.appender().ok_or("a folder")?.folder().files()?;
                 assert_eq!(rt; files.len(), 1);
                 for file in &files {
                     let shown = str::from_utf8(file.bytes).ok().unwrap_or("not UTF-8");

@@ -130,7 +130,7 @@ fn lines_are_whole<R: Abort + AllocGlobal>(rt: &R, trace: &LanesTrace) -> Result
     let [sink] = routed.sinks() else {
         return Err("a sink".into());
     };
-    let files = sink.appender().folder().files()?;
+    let files = sink.appender().ok_or("a folder")?.folder().files()?;
     let [file] = files.as_slice() else {
         return Err("a file".into());
     };

@@ -69,7 +69,7 @@ fn tell(rt: &impl Abort, alloc: Global, trace: &mut Trace<Outputs>) -> Result<()
 /// The text of the one file.
 fn has_text(rt: &impl Abort, trace: &Trace<Outputs>, text: &str) -> Result<(), Fail> {
     let sink = trace.sink(0).ok_or("a sink")?;
-    let files = sink.appender().folder().files()?;
+    let files = sink.appender().ok_or("a folder")?.folder().files()?;
     let file = files.first().ok_or("a file")?;
     assert_eq!(rt; files.len(), 1);
     assert_eq!(rt; file.name, FILE);

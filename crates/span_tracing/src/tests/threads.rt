@@ -66,7 +66,7 @@ fn text_after_events(alloc: Global, lines: LineSettings) -> Result<String, Fail>
         is_done(trace.event(lane, MONDAY, HELLO, Parent::Contextual, &[message]))?;
     }
     let sink = trace.sink(0).ok_or("a sink")?;
-    let files = sink.appender().folder().files()?;
+    let files = sink.appender().ok_or("a folder")?.folder().files()?;
     let file = files.first().ok_or("a file")?;
     Ok(String::from_str(alloc, str_of(&file.bytes)?)?)
 }

@@ -47,11 +47,11 @@ module _ {T F S : Type 0} (n : Ghosts Fields) (text_at : T → ℤ → ℕ → O
         kept = kept;
       }
 
-module _ {T F D : Type 0} (contents : D → Option Contents) (failed : D → ℕ) (n : Ghosts Fields) (text_at : T → ℤ → ℕ → Option (List ℕ))
+module _ {T F D : Type 0} (Q : Type 0) (contents : D → Option Contents) (failed : D → ℕ) (n : Ghosts Fields) (text_at : T → ℤ → ℕ → Option (List ℕ))
     (line_of : Format LineFormat T → Settings → PlainContext → PlainEvent → Option (List ℕ)) (g : FilterGhosts F)
     (kept_are : KeptTextsAreHarmless n) (lines_are : FormatsWriteHarmlessLines text_at line_of)
-    (fill : HarmlessOutputsFillFiles contents failed n line_of g) where
-  pub formats_fill : HarmlessFormatsFillFiles contents failed n text_at line_of g
+    (fill : HarmlessOutputsFillFiles Q contents failed n line_of g) where
+  pub formats_fill : HarmlessFormatsFillFiles Q contents failed n text_at line_of g
   formats_fill v turns w reach p agrees skeleton tame stack place o at has lanes kept lines =
       fill v turns w reach p agrees skeleton tame stack place o at
       (out_is n text_at line_of g kept_are lines_are (stack_in v stack) (p.outs stack) place o (agrees.1 stack) has at lanes kept) lines

@@ -87,13 +87,13 @@ files_stay = files_keep LetsPass LetsPass nothing both_pass (λ line passes. pas
 pub texts_are : PassingTextsAreHarmless
 texts_are text passes = (passes, passing_is text passes)
 
-module _ {N E F D : Type 0} (contents : D → Option Contents) (failed : D → ℕ) (n : Ghosts N) (line_of : E → Settings → PlainContext →
+module _ {N E F D : Type 0} (Q : Type 0) (contents : D → Option Contents) (failed : D → ℕ) (n : Ghosts N) (line_of : E → Settings → PlainContext →
     PlainEvent → Option (List ℕ)) (g : FilterGhosts F) where
-  pub runs_fill : FilesStayHarmless → PassingTextsAreHarmless → HarmlessRunsFillFiles contents failed n line_of g
+  pub runs_fill : FilesStayHarmless → PassingTextsAreHarmless → HarmlessRunsFillFiles Q contents failed n line_of g
   runs_fill files texts v turns w reach p agrees stack place lines =
       outputs_hold contents failed n line_of g LetsPass LetsPass IsHarmlessText files texts v turns w reach p agrees stack place lines
 
-  pub outputs_fill : HarmlessOutputsRun n → HarmlessRunsFillFiles contents failed n line_of g →
-      HarmlessOutputsFillFiles contents failed n line_of g
+  pub outputs_fill : HarmlessOutputsRun n → HarmlessRunsFillFiles Q contents failed n line_of g →
+      HarmlessOutputsFillFiles Q contents failed n line_of g
   outputs_fill run fill v turns w reach p agrees skeleton tame stack place o at is lines =
       fill v turns w reach p agrees stack place (run p turns skeleton tame stack place o at is lines)

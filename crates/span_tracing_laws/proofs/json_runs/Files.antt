@@ -11,9 +11,9 @@ use Rattle.span_tracing_laws.specs.json.Texts.{FilesHoldObjects, HoldsObjects, I
 use Rattle.span_tracing_laws.specs.json_runs.JsonRuns.{JsonFilesHoldObjects, JsonOutputsRun}
 use Rattle.span_tracing_laws.proofs.machines.OutputFiles.{outputs_hold}
 
-module _ {N E F D : Type 0} (contents : D → Option Contents) (failed : D → ℕ) (n : Ghosts N) (line_of : E → Settings → PlainContext →
+module _ {N E F D : Type 0} (Q : Type 0) (contents : D → Option Contents) (failed : D → ℕ) (n : Ghosts N) (line_of : E → Settings → PlainContext →
     PlainEvent → Option (List ℕ)) (g : FilterGhosts F) (runs : JsonOutputsRun n) (files : FilesHoldObjects) (give : LinesGiveObjects) where
-  pub files_hold : JsonFilesHoldObjects contents failed n line_of g
+  pub files_hold : JsonFilesHoldObjects Q contents failed n line_of g
   files_hold v turns w reach p agrees skeleton range stack place o at json quiet =
       outputs_hold contents failed n line_of g IsObjectLine IsObjectLines HoldsObjects files give v turns w reach p agrees stack place
       (runs p turns skeleton range stack place o at json quiet)

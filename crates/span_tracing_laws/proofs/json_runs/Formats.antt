@@ -38,10 +38,10 @@ untold : (o : Numbered Fields) (turns : List StepWithMask) → WritesEach o.out.
 untold o turns each (inl off) = inl off
 untold o turns each (inr formatted) = inr (each, formatted)
 
-module _ {T F D : Type 0} (contents : D → Option Contents) (failed : D → ℕ) (n : Ghosts Fields) (line_of : Format LineFormat T → Settings →
+module _ {T F D : Type 0} (Q : Type 0) (contents : D → Option Contents) (failed : D → ℕ) (n : Ghosts Fields) (line_of : Format LineFormat T → Settings →
     PlainContext → PlainEvent → Option (List ℕ)) (g : FilterGhosts F) (writes : JsonFormatWritesObjects n line_of)
-    (hold : JsonFilesHoldObjects contents failed n line_of g) where
-  pub format_files_hold : JsonFormatFilesHoldObjects contents failed n line_of g
+    (hold : JsonFilesHoldObjects Q contents failed n line_of g) where
+  pub format_files_hold : JsonFormatFilesHoldObjects Q contents failed n line_of g
   format_files_hold v turns w stand p agrees skeleton range stack place o at has kept lines quiet =
       let json = json_there n line_of g writes (stack_in v stack) (p.outs stack) place o (agrees.1 stack) has at kept in
       hold v turns w stand p agrees skeleton range stack place o at (json.0, lines) (untold o turns json.1 quiet)

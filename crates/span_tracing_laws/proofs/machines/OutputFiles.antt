@@ -45,10 +45,10 @@ module _ {D : Type 0} (contents : D → Option Contents) (P T R : List ℕ → T
         name
         (found_after s run a b led.last name led.leaves found)
 
-module _ {N E F D : Type 0} (contents : D → Option Contents) (failed : D → ℕ) (n : Ghosts N) (line_of : E → Settings → PlainContext →
+module _ {N E F D Q : Type 0} (contents : D → Option Contents) (failed : D → ℕ) (n : Ghosts N) (line_of : E → Settings → PlainContext →
     PlainEvent → Option (List ℕ)) (g : FilterGhosts F) (P T R : List ℕ → Type 0) (files : FilesKeep P T)
     (give : (text : List ℕ) → T text → R text) where
-  pub outputs_hold : (v : FileTrace N E F D) (turns : List StepWithMask) (w : FileTrace N E F D) →
+  pub outputs_hold : (v : FileTrace N E F D Q) (turns : List StepWithMask) (w : FileTrace N E F D Q) →
       OutputsReachFiles contents failed n line_of g v turns w → (p : Plain N) → AgreesPlain n line_of g v p → (stack place : ℕ) →
       IfSome (slice_get (lines_of n p turns stack) place) (AreRun P) →
       SinksHold contents P T R v w stack place × QueuesHold contents P T R v w stack place

@@ -70,10 +70,10 @@ module _ (T : List ℕ → Type 0) where
     found_turns (t ∷ ts) p old new last name (mid, next, met, leads, later) is =
         found_turns ts next mid new last name later (found_turn t p old next name leads is)
 
-module _ {N E F D : Type 0} (contents : D → Option Contents) (failed : D → ℕ) (n : Ghosts N) (line_of : E → Settings → PlainContext →
+module _ {N E F D Q : Type 0} (contents : D → Option Contents) (failed : D → ℕ) (n : Ghosts N) (line_of : E → Settings → PlainContext →
     PlainEvent → Option (List ℕ)) (g : FilterGhosts F) (P T R : List ℕ → Type 0) (files : FilesKeep P T)
     (give : (text : List ℕ) → T text → R text) where
-  pub queues_hold : (v : FileTrace N E F D) (turns : List StepWithMask) (w : FileTrace N E F D) →
+  pub queues_hold : (v : FileTrace N E F D Q) (turns : List StepWithMask) (w : FileTrace N E F D Q) →
       OutputsReachFiles contents failed n line_of g v turns w → (p : Plain N) → AgreesPlain n line_of g v p → (stack place : ℕ) →
       IfSome (slice_get (lines_of n p turns stack) place) (AreRun P) → QueuesHold contents P T R v w stack place
   queues_hold v turns w reach p agrees stack place are number olds news old new before after old_is new_is none waiting s keeps =

@@ -58,11 +58,11 @@ module _ {A : Type 0} (becomes : A → Reply → A → Type 0) (place : ℕ) (xs
   from_slot : Called (Refused UnknownSink) (slot place) becomes xs r ys → Reaches becomes place xs r ys
   from_slot goes = reached_if (slice_get xs place) goes
 
-module _ {D : Type 0} (contents : D → Option Contents) (failed : D → ℕ) where
+module _ {D : Type 0} (Q : Type 0) (contents : D → Option Contents) (failed : D → ℕ) where
   abbrev Output : Type 0
-  Output = Routed (AnySink D)
+  Output = Routed (AnySink D Q)
 
-  abbrev OnSink : QueueCall → AnySink D → Reply → AnySink D → Type 0
+  abbrev OnSink : QueueCall → AnySink D Q → Reply → AnySink D Q → Type 0
   OnSink call s r t = CallsAny contents failed s call r t
 
   abbrev OnOutput : ℕ → QueueCall → Output → Reply → Output → Type 0
@@ -82,7 +82,7 @@ module _ {D : Type 0} (contents : D → Option Contents) (failed : D → ℕ) wh
       )
 
   -- no call changes how many sinks each output has
-  sinks_count : (sink : ℕ) (call : QueueCall) (q : Option (AnySink D)) (olds : List (AnySink D)) (r : Reply) (news : List (AnySink D)) →
+  sinks_count : (sink : ℕ) (call : QueueCall) (q : Option (AnySink D Q)) (olds : List (AnySink D Q)) (r : Reply) (news : List (AnySink D Q)) →
       ReachesIf (OnSink call) sink q olds r news → length news ≡ length olds
   sinks_count sink call None olds r news goes = ap length goes.1
   sinks_count sink call (Some s) olds r news goes = ap length goes.2 ∙ length-set olds sink goes.0
@@ -175,7 +175,7 @@ module _ {D : Type 0} (contents : D → Option Contents) (failed : D → ℕ) wh
   }
 
   -- so may calls on the sinks of a stack
-  pub stacks_turn : {N E F : Type 0} → CallsMayChangePlaces (drives (CallsIn contents failed) {N = N} {E = E} {F = F})
+  pub stacks_turn : {N E F : Type 0} → CallsMayChangePlaces (drives (CallsIn {Q = Q} contents failed) {N = N} {E = E} {F = F})
   stacks_turn = record {
     each = λ u v w one other call later r s differ first second.
         let turn = outputs_turn.each u.sinks v.sinks w.sinks one other call later r s differ first.1 second.1 in

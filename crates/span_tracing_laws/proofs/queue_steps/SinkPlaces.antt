@@ -36,8 +36,8 @@ none_is e = cc
 abbrev Filed : Type 0 → Type 0 → Type 0 → Type 0 → Type 0
 Filed N E F S = TraceStackValue N E F (Routed S)
 
-abbrev FileStack : Type 0 → Type 0 → Type 0 → Type 0 → Type 0
-FileStack N E F D = Filed N E F (AnySink D)
+abbrev FileStack : Type 0 → Type 0 → Type 0 → Type 0 → Type 0 → Type 0
+FileStack N E F D Q = Filed N E F (AnySink D Q)
 
 module _ {S : Type 0} where
   -- outputs have as many sinks as before
@@ -160,58 +160,58 @@ module _ {N E F S : Type 0} where
       (counts_stay (output_in v.sinks 0 number) v y) ∙
       again_where (output_in v.sinks 0 number) v s y z its
 
-module _ {D : Type 0} (contents : D → Option Contents) (failed : D → ℕ) where
+module _ {D : Type 0} (Q : Type 0) (contents : D → Option Contents) (failed : D → ℕ) where
   routed_same : {S : Type 0} (p o : Routed S) (ss : List S) → p.route ≡ o.route → p.sinks ≡ ss → p ≡ record o { sinks = ss }
   routed_same p o ss routes sinks = λ i. record { route = routes i; sinks = sinks i }
 
-  called_there : (q : Option (Routed (AnySink D))) (at : SinkPlace) (call : QueueCall) (olds : List (Routed (AnySink D))) (r : Reply)
-      (news : List (Routed (AnySink D))) (s : AnySink D) →
+  called_there : (q : Option (Routed (AnySink D Q))) (at : SinkPlace) (call : QueueCall) (olds : List (Routed (AnySink D Q))) (r : Reply)
+      (news : List (Routed (AnySink D Q))) (s : AnySink D Q) →
       ReachesIf (λ o r p. CallsRouted contents failed at.sink call o r p) at.output q olds r news → sink_of q at.sink ≡ Some s →
-      (t : AnySink D) × CallsAny contents failed s call r t × (news ≡ put_there q olds at t)
+      (t : AnySink D Q) × CallsAny contents failed s call r t × (news ≡ put_there q olds at t)
   called_there None at call olds r news s goes its = absurd (none_is its)
   called_there (Some o) at call olds r news s (p, (routes, reaches), is) its =
       let its_call : ReachesIf (λ s r t. CallsAny contents failed s call r t) at.sink (Some s) o.sinks r p.sinks =
-      subst (λ (q : Option (AnySink D)). ReachesIf (λ s r t. CallsAny contents failed s call r t) at.sink q o.sinks r p.sinks) its
+      subst (λ (q : Option (AnySink D Q)). ReachesIf (λ s r t. CallsAny contents failed s call r t) at.sink q o.sinks r p.sinks) its
       reaches in (
         its_call.0,
         its_call.1,
-        is ∙ ap (λ (k : Routed (AnySink D)). slice_set olds at.output k)
+        is ∙ ap (λ (k : Routed (AnySink D Q)). slice_set olds at.output k)
             (routed_same p o (slice_set o.sinks at.sink its_call.0) routes its_call.2),
       )
 
-  called_at : (q : Option SinkPlace) (call : QueueCall) (olds : List (Routed (AnySink D))) (r : Reply)
-      (news : List (Routed (AnySink D))) (s : AnySink D) → CallsAt contents failed q call olds r news → sink_there olds q ≡ Some s →
-      (t : AnySink D) × CallsAny contents failed s call r t × (news ≡ put_at q olds t)
+  called_at : (q : Option SinkPlace) (call : QueueCall) (olds : List (Routed (AnySink D Q))) (r : Reply)
+      (news : List (Routed (AnySink D Q))) (s : AnySink D Q) → CallsAt contents failed q call olds r news → sink_there olds q ≡ Some s →
+      (t : AnySink D Q) × CallsAny contents failed s call r t × (news ≡ put_at q olds t)
   called_at None call olds r news s goes its = absurd (none_is its)
   called_at (Some at) call olds r news s goes its = called_there (slice_get olds at.output) at call olds r news s goes its
 
   module _ {N E F : Type 0} where
-    stack_same : (y x : FileStack N E F D) (os : List (Routed (AnySink D))) → y.stack ≡ x.stack → y.sinks ≡ os →
+    stack_same : (y x : FileStack N E F D Q) (os : List (Routed (AnySink D Q))) → y.stack ≡ x.stack → y.sinks ≡ os →
         y ≡ record x { sinks = os }
     stack_same y x os stacks sinks = λ i. record { stack = stacks i; sinks = sinks i }
 
-    called_with : (o : Option (FileStack N E F D)) (v : FileTrace N E F D) (at : OutputPlace) (call : QueueCall) (r : Reply)
-        (w : FileTrace N E F D) (s : AnySink D) →
+    called_with : (o : Option (FileStack N E F D Q)) (v : FileTrace N E F D Q) (at : OutputPlace) (call : QueueCall) (r : Reply)
+        (w : FileTrace N E F D Q) (s : AnySink D Q) →
         CalledIf (Refused UnknownSink) (stack_place at.stack) (λ x r y. drives (CallsIn contents failed) x at.place call r y) o v r w →
-        sink_with o at.place ≡ Some s → (t : AnySink D) × CallsAny contents failed s call r t × (w ≡ changed_with o v at t)
+        sink_with o at.place ≡ Some s → (t : AnySink D Q) × CallsAny contents failed s call r t × (w ≡ changed_with o v at t)
     called_with None v at call r w s goes its = absurd (none_is its)
     called_with (Some x) v at call r w s (y, (stacks, calls), is) its =
         let its_call = called_at (sink_place x.sinks 0 at.place) call x.sinks r y.sinks s calls its in (
           its_call.0,
           its_call.1,
-          is ∙ ap (λ (k : FileStack N E F D). put_stack v at.stack k)
+          is ∙ ap (λ (k : FileStack N E F D Q). put_stack v at.stack k)
               (stack_same y x (put_sink x.sinks at.place its_call.0) stacks its_call.2),
         )
 
-    called_where : (p : Option OutputPlace) (v : FileTrace N E F D) (call : QueueCall) (r : Reply) (w : FileTrace N E F D) (s : AnySink D) →
+    called_where : (p : Option OutputPlace) (v : FileTrace N E F D Q) (call : QueueCall) (r : Reply) (w : FileTrace N E F D Q) (s : AnySink D Q) →
         PlaceCalled (drives (CallsIn contents failed)) v p call r w → sink_where p v ≡ Some s →
-        (t : AnySink D) × CallsAny contents failed s call r t × (w ≡ changed_where p v t)
+        (t : AnySink D Q) × CallsAny contents failed s call r t × (w ≡ changed_where p v t)
     called_where None v call r w s goes its = absurd (none_is its)
     called_where (Some at) v call r w s goes its =
         called_with (stack_in v at.stack) v at call r w s (to_stack (drives (CallsIn contents failed)) v at call r w goes) its
 
     -- a call on the queue of a sink that is there changes it alone
-    pub sink_called : (v : FileTrace N E F D) (number : ℕ) (call : QueueCall) (r : Reply) (w : FileTrace N E F D) (s : AnySink D) →
+    pub sink_called : (v : FileTrace N E F D Q) (number : ℕ) (call : QueueCall) (r : Reply) (w : FileTrace N E F D Q) (s : AnySink D Q) →
         DriveGives (drives (CallsIn contents failed)) v number call r w → sink_at v number ≡ Some s →
-        (t : AnySink D) × CallsAny contents failed s call r t × (w ≡ with_sink v number t)
+        (t : AnySink D Q) × CallsAny contents failed s call r t × (w ≡ with_sink v number t)
     sink_called v number call r w s goes its = called_where (output_in v.sinks 0 number) v call r w s goes its

@@ -1,5 +1,5 @@
 -- The machine reads of a new span which outputs see it.
-use Rattle.std.proofs.Common.{◌≡◌, ◌≤◌, ◌<◌, ℕ, zero, suc, Bool, true, List, length, Option, Some, None, Result, Ok, Err, refl, sym, ap}
+use Rattle.std.proofs.Common.{◌≡◌, ◌≤◌, ◌<◌, ℕ, zero, suc, Bool, true, List, length, Option, Some, None, Ok, Err, refl, sym, ap}
 use Rattle.std.proofs.Common.{◌∙◌, subst, arith}
 use Rattle.tracing_core_fields.specs.PlainMetadata.{PlainMetadata}
 use Rattle.tracing_core_fields.specs.requests.Calls.{Call, ReplyTo, SpanMade}
@@ -27,7 +27,7 @@ use Rattle.span_tracing_skeleton.specs.Looking.{known, reach, registry_at}
 use Rattle.span_tracing_skeleton.specs.Machine.{acted, after, answered, next_name, or_refused, or_same, reply_of}
 use Rattle.span_tracing_skeleton.specs.Order.{refusal_of}
 use Rattle.span_tracing_skeleton.specs.PlainData.{Request, SpanStep}
-use Rattle.span_tracing_skeleton.specs.Skeleton.{Skeleton, Answers, Passed}
+use Rattle.span_tracing_skeleton.specs.Skeleton.{Passed}
 use Rattle.span_tracing_skeleton.specs.SpanNames.{name_of, number_of}
 use Rattle.span_tracing_skeleton.specs.declared.call.Reply.{Reply}
 use Rattle.span_tracing_skeleton.specs.declared.call.Reply.TheVariants.{Span}
@@ -35,7 +35,7 @@ use Rattle.span_tracing_skeleton.specs.declared.call.SpanName.{SpanName}
 use Rattle.span_tracing_skeleton.specs.declared.refusal.Refusal.{Refusal}
 use Rattle.span_tracing_steps.specs.StackRequests.{place_at, request_of}
 use Rattle.span_tracing_steps.specs.States.{held_in}
-use Rattle.span_tracing_steps.specs.Steps.{SpanGoes, StepGives, StepUnless, becoming, span_reply}
+use Rattle.span_tracing_steps.specs.Steps.{SpanGoes, StepGives, StepUnless, span_reply}
 use Rattle.span_tracing_laws.specs.runs.SpanMasks.{SpanIsRead, read_of, seen_of}
 use Rattle.span_tracing_laws.specs.runs.StepFollows.{TraceIsReady, Traced, registry_of, skeleton_of}
 use Rattle.span_tracing_laws.proofs.runs.HubStacks.{became_own, registry_there}

@@ -46,7 +46,7 @@ changed_alike f (suc at) zero (x ∷ xs) (y ∷ ys) count same = same
 changed_alike f (suc at) (suc place) (x ∷ xs) (y ∷ ys) count same = changed_alike f at place xs ys (cc) same
 
 -- two outputs' lines of text, one behind the other
-abbrev both : {A : Type 0} → Option (List A) → Option (List A) → Option (List A)
+abbrev pub both : {A : Type 0} → Option (List A) → Option (List A) → Option (List A)
 both (Some xs) (Some ys) = Some (xs ++ ys)
 both (Some xs) None = None
 both None ys = None
@@ -55,7 +55,7 @@ both_none : {A : Type 0} (xs : Option (List A)) → both xs None ≡ None
 both_none None = refl
 both_none (Some xs) = refl
 
-joined_at : (xs ys : List (List (At × PlainLine))) (place : ℕ) →
+pub joined_at : (xs ys : List (List (At × PlainLine))) (place : ℕ) →
     slice_get (joined xs ys) place ≡ both (slice_get xs place) (slice_get ys place)
 joined_at [] ys place = refl
 joined_at (x ∷ xs) [] place = sym (both_none (slice_get (x ∷ xs) place))
@@ -68,13 +68,13 @@ joined_alike xs us ys vs place first later =
     joined_at xs ys place ∙ ap (λ (run : Option (List (At × PlainLine))). both run (slice_get ys place)) first
     ∙ ap (both (slice_get us place)) later ∙ sym (joined_at us vs place)
 
-offered_at : {N : Type 0} (outs : List (Numbered N)) (place : ℕ) →
+pub offered_at : {N : Type 0} (outs : List (Numbered N)) (place : ℕ) →
     slice_get (lines_offered outs) place ≡ option_map (λ (o : Numbered N). o.out.lines) (slice_get outs place)
 offered_at [] place = refl
 offered_at (o ∷ outs) zero = refl
 offered_at (o ∷ outs) (suc place) = offered_at outs place
 
-none_at : {A : Type 0} (place : ℕ) → list_at {A = A} [] place ≡ []
+pub none_at : {A : Type 0} (place : ℕ) → list_at {A = A} [] place ≡ []
 none_at zero = refl
 none_at (suc place) = none_at place
 
@@ -82,17 +82,17 @@ module _ {N : Type 0} (n : Ghosts N) where
   abbrev Outs : Type 0
   Outs = List (Numbered N)
 
-  numbers_told : (nss : List (List Notice)) (outs : Outs) (fates : Fates) → numbers_of (outs_told n nss outs fates) ≡ numbers_of outs
+  pub numbers_told : (nss : List (List Notice)) (outs : Outs) (fates : Fates) → numbers_of (outs_told n nss outs fates) ≡ numbers_of outs
   numbers_told nss [] fates = refl
   numbers_told nss (o ∷ outs) fates = ap (λ (ns : List ℕ). o.number ∷ ns) (numbers_told (rest_of nss) outs (rest_of fates))
 
-  abbrev fold : List Fated → Numbered N → Numbered N
+  abbrev pub fold : List Fated → Numbered N → Numbered N
   fold ts o = record o { out = out_run n o.out ts }
 
-  abbrev fold_at : List (List Notice) → List Fate → ℕ → Option (Numbered N) → Option (Numbered N)
+  abbrev pub fold_at : List (List Notice) → List Fate → ℕ → Option (Numbered N) → Option (Numbered N)
   fold_at nss fates place o = option_map (fold (with_fates (heards (list_at nss place)) fates)) o
 
-  told_at : (nss : List (List Notice)) (outs : Outs) (fates : Fates) (place : ℕ) →
+  pub told_at : (nss : List (List Notice)) (outs : Outs) (fates : Fates) (place : ℕ) →
       slice_get (outs_told n nss outs fates) place ≡ fold_at nss (list_at fates place) place (slice_get outs place)
   told_at nss [] fates place = refl
   told_at nss (o ∷ outs) fates zero = refl

@@ -44,23 +44,23 @@ module _ {N : Type 0} (n : Ghosts N) where
       (stack place : ℕ) (o : Numbered N) → slice_get (p.outs stack) place ≡ Some o → IsHarmlessOut n o.out →
       AreHarmlessLines o.out.lines → IfSome (slice_get (lines_of n p turns stack) place) (AreRun LetsPass)
 
-module _ {N E F D : Type 0} (contents : D → Option Contents) where
+module _ {N E F D Q : Type 0} (contents : D → Option Contents) where
   -- No file of a direct sink of a stack's output at a place steers a terminal, if the text that its opening found didn't, where the sink
   -- dropped no line in the run, was handed harmless lines alone before it, and the contents of its folder are known.
-  abbrev pub SinksHoldHarmless : FileTrace N E F D → FileTrace N E F D → ℕ → ℕ → Type 0
+  abbrev pub SinksHoldHarmless : FileTrace N E F D Q → FileTrace N E F D Q → ℕ → ℕ → Type 0
   SinksHoldHarmless v w stack place = SinksHold contents LetsPass LetsPass IsHarmlessText v w stack place
 
   -- Nor does one of a queued sink where no line found no memory, and of which harmless lines alone waited and were handed over before. And
   -- harmless lines alone wait after it then.
-  abbrev pub QueuesHoldHarmless : FileTrace N E F D → FileTrace N E F D → ℕ → ℕ → Type 0
+  abbrev pub QueuesHoldHarmless : FileTrace N E F D Q → FileTrace N E F D Q → ℕ → ℕ → Type 0
   QueuesHoldHarmless v w stack place = QueuesHold contents LetsPass LetsPass IsHarmlessText v w stack place
 
-module _ {N E F D : Type 0} (contents : D → Option Contents) (failed : D → ℕ) (n : Ghosts N) (line_of : E → Settings → PlainContext →
+module _ {N E F D : Type 0} (Q : Type 0) (contents : D → Option Contents) (failed : D → ℕ) (n : Ghosts N) (line_of : E → Settings → PlainContext →
     PlainEvent → Option (List ℕ)) (g : FilterGhosts F) where
   -- where no line of an output over a run steers a terminal, no file does after it
   abbrev pub HarmlessRunsFillFiles : Type 0
   HarmlessRunsFillFiles =
-      (v : FileTrace N E F D) (turns : List StepWithMask) (w : FileTrace N E F D) →
+      (v : FileTrace N E F D Q) (turns : List StepWithMask) (w : FileTrace N E F D Q) →
       OutputsReachFiles contents failed n line_of g v turns w → (p : Plain N) → AgreesPlain n line_of g v p → (stack place : ℕ) →
       IfSome (slice_get (lines_of n p turns stack) place) (AreRun LetsPass) →
       SinksHoldHarmless contents v w stack place × QueuesHoldHarmless contents v w stack place
@@ -68,7 +68,7 @@ module _ {N E F D : Type 0} (contents : D → Option Contents) (failed : D → �
   -- so it is of a harmless output over a run of tame steps
   abbrev pub HarmlessOutputsFillFiles : Type 0
   HarmlessOutputsFillFiles =
-      (v : FileTrace N E F D) (turns : List StepWithMask) (w : FileTrace N E F D) →
+      (v : FileTrace N E F D Q) (turns : List StepWithMask) (w : FileTrace N E F D Q) →
       OutputsReachFiles contents failed n line_of g v turns w → (p : Plain N) → AgreesPlain n line_of g v p →
       IsTameSkeleton p.skeleton → AreTameSteps p.skeleton.callsites (steps_of turns) →
       (stack place : ℕ) (o : Numbered N) → slice_get (p.outs stack) place ≡ Some o → IsHarmlessOut n o.out →
@@ -88,12 +88,12 @@ HasHarmlessLayer text_at None place = ⊥
 HasHarmlessLayer {T} {F} text_at (Some x) place =
     (row : Lined Fields (Format LineFormat T) F) × (slice_get x.stack.rows place ≡ Some row) × IsHarmlessLayer text_at row.output.layer
 
-module _ {T F D : Type 0} (contents : D → Option Contents) (failed : D → ℕ) (n : Ghosts Fields) (text_at : T → ℤ → ℕ → Option (List ℕ))
+module _ {T F D : Type 0} (Q : Type 0) (contents : D → Option Contents) (failed : D → ℕ) (n : Ghosts Fields) (text_at : T → ℤ → ℕ → Option (List ℕ))
     (line_of : Format LineFormat T → Settings → PlainContext → PlainEvent → Option (List ℕ)) (g : FilterGhosts F) where
   -- and of an output with such a layer, where no thread's name steers a terminal, and nothing did that was kept of spans before the run
   abbrev pub HarmlessFormatsFillFiles : Type 0
   HarmlessFormatsFillFiles =
-      (v : FileTrace Fields (Format LineFormat T) F D) (turns : List StepWithMask) (w : FileTrace Fields (Format LineFormat T) F D) →
+      (v : FileTrace Fields (Format LineFormat T) F D Q) (turns : List StepWithMask) (w : FileTrace Fields (Format LineFormat T) F D Q) →
       OutputsReachFiles contents failed n line_of g v turns w → (p : Plain Fields) → AgreesPlain n line_of g v p →
       IsTameSkeleton p.skeleton → AreTameSteps p.skeleton.callsites (steps_of turns) →
       (stack place : ℕ) (o : Numbered Fields) → slice_get (p.outs stack) place ≡ Some o →

@@ -48,24 +48,24 @@ module _ {N : Type 0} (n : Ghosts N) where
       (stack place : ℕ) (o : Numbered N) → slice_get (p.outs stack) place ≡ Some o → IsJsonOutput n o → NoFaultIsTold o turns →
       IfSome (slice_get (lines_of n p turns stack) place) AreObjectsRun
 
-module _ {N E F D : Type 0} (contents : D → Option Contents) where
+module _ {N E F D Q : Type 0} (contents : D → Option Contents) where
   -- all files of each direct sink of a stack's output at a place hold one object of JSON on each line, if the text that their opening found
   -- was made up of such, where the sink dropped no line in the run, was handed objects alone before it, and the contents of its folder are
   -- known
-  abbrev pub SinksHoldObjects : FileTrace N E F D → FileTrace N E F D → ℕ → ℕ → Type 0
+  abbrev pub SinksHoldObjects : FileTrace N E F D Q → FileTrace N E F D Q → ℕ → ℕ → Type 0
   SinksHoldObjects v w stack place = SinksHold contents IsObjectLine IsObjectLines HoldsObjects v w stack place
 
   -- So do those of each queued sink where no line found no memory, and of which objects alone waited and were handed over before. And
   -- objects alone wait after it then.
-  abbrev pub QueuesHoldObjects : FileTrace N E F D → FileTrace N E F D → ℕ → ℕ → Type 0
+  abbrev pub QueuesHoldObjects : FileTrace N E F D Q → FileTrace N E F D Q → ℕ → ℕ → Type 0
   QueuesHoldObjects v w stack place = QueuesHold contents IsObjectLine IsObjectLines HoldsObjects v w stack place
 
-module _ {N E F D : Type 0} (contents : D → Option Contents) (failed : D → ℕ) (n : Ghosts N) (line_of : E → Settings → PlainContext →
+module _ {N E F D : Type 0} (Q : Type 0) (contents : D → Option Contents) (failed : D → ℕ) (n : Ghosts N) (line_of : E → Settings → PlainContext →
     PlainEvent → Option (List ℕ)) (g : FilterGhosts F) where
   -- the files of an output of JSON hold one object on each line after a run with numbers in range in which no fault is told
   abbrev pub JsonFilesHoldObjects : Type 0
   JsonFilesHoldObjects =
-      (v : FileTrace N E F D) (turns : List StepWithMask) (w : FileTrace N E F D) →
+      (v : FileTrace N E F D Q) (turns : List StepWithMask) (w : FileTrace N E F D Q) →
       OutputsReachFiles contents failed n line_of g v turns w →
       (p : Plain N) → AgreesPlain n line_of g v p → IsSkeletonInRange p.skeleton → StepsInRange (steps_of turns) →
       (stack place : ℕ) (o : Numbered N) → slice_get (p.outs stack) place ≡ Some o → IsJsonOutput n o → NoFaultIsTold o turns →
@@ -81,13 +81,13 @@ HasJsonLayer None place = ⊥
 HasJsonLayer {T} {F} (Some x) place = (row : Lined Fields (Format LineFormat T) F) × (slice_get x.stack.rows place ≡ Some row) ×
     IsJsonLayer row.output.layer
 
-module _ {T F D : Type 0} (contents : D → Option Contents) (failed : D → ℕ) (n : Ghosts Fields) (line_of : Format LineFormat T → Settings →
+module _ {T F D : Type 0} (Q : Type 0) (contents : D → Option Contents) (failed : D → ℕ) (n : Ghosts Fields) (line_of : Format LineFormat T → Settings →
     PlainContext → PlainEvent → Option (List ℕ)) (g : FilterGhosts F) where
   -- the same of an output in the JSON format that kept no fields but objects before the run, where it doesn't tell events that can't be
   -- formatted, or each event of the run can be
   abbrev pub JsonFormatFilesHoldObjects : Type 0
   JsonFormatFilesHoldObjects =
-      (v : FileTrace Fields (Format LineFormat T) F D) (turns : List StepWithMask) (w : FileTrace Fields (Format LineFormat T) F D) →
+      (v : FileTrace Fields (Format LineFormat T) F D Q) (turns : List StepWithMask) (w : FileTrace Fields (Format LineFormat T) F D Q) →
       OutputsReachFiles contents failed n line_of g v turns w →
       (p : Plain Fields) → AgreesPlain n line_of g v p → IsSkeletonInRange p.skeleton → StepsInRange (steps_of turns) →
       (stack place : ℕ) (o : Numbered Fields) → slice_get (p.outs stack) place ≡ Some o → HasJsonLayer (stack_in v stack) place →

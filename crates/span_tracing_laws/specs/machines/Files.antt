@@ -35,12 +35,12 @@ pub record FilesKeep (line_is text_is : List ℕ → Type 0) : Type 0 where
 abbrev pub FileHolds : (List ℕ → Type 0) → (List ℕ → Type 0) → PrunedSink → Contents → List ℕ → Type 0
 FileHolds text_is holds s c name = IfSome (s.sink.found name) text_is → IfSome (bytes_at c.files name) holds
 
-module _ {N E F D : Type 0} (contents : D → Option Contents) (line_is text_is holds : List ℕ → Type 0) where
+module _ {N E F D Q : Type 0} (contents : D → Option Contents) (line_is text_is holds : List ℕ → Type 0) where
   -- so of all files of each direct sink of a stack's output at a place, where the sink dropped no line in the run, was handed such lines
   -- alone before it, and the contents of its folder are known
-  abbrev pub SinksHold : FileTrace N E F D → FileTrace N E F D → ℕ → ℕ → Type 0
+  abbrev pub SinksHold : FileTrace N E F D Q → FileTrace N E F D Q → ℕ → ℕ → Type 0
   SinksHold v w stack place =
-      (number : ℕ) (olds news : Routed (AnySink D)) (old new : RollingSink D) → routed_at (stack_in v stack) place ≡ Some olds →
+      (number : ℕ) (olds news : Routed (AnySink D Q)) (old new : RollingSink D) → routed_at (stack_in v stack) place ≡ Some olds →
       routed_at (stack_in w stack) place ≡ Some news →
       slice_get olds.sinks number ≡ Some (Direct old) → slice_get news.sinks number ≡ Some (Direct new) → NoneDropped old new →
       (s : PrunedSink) →
@@ -49,9 +49,9 @@ module _ {N E F D : Type 0} (contents : D → Option Contents) (line_is text_is 
 
   -- So of those of each queued sink where no line found no memory, and of which such lines alone waited and were handed over before. And
   -- such lines alone wait after it then.
-  abbrev pub QueuesHold : FileTrace N E F D → FileTrace N E F D → ℕ → ℕ → Type 0
+  abbrev pub QueuesHold : FileTrace N E F D Q → FileTrace N E F D Q → ℕ → ℕ → Type 0
   QueuesHold v w stack place =
-      (number : ℕ) (olds news : Routed (AnySink D)) (old new : QueuedSink D) → routed_at (stack_in v stack) place ≡ Some olds →
+      (number : ℕ) (olds news : Routed (AnySink D Q)) (old new : QueuedSink D) → routed_at (stack_in v stack) place ≡ Some olds →
       routed_at (stack_in w stack) place ≡ Some news →
       slice_get olds.sinks number ≡ Some (Queued old) → slice_get news.sinks number ≡ Some (Queued new) → NoneMissed old new →
       AreWaiting line_is old.waiting → (s : PrunedSink) →
@@ -60,10 +60,10 @@ module _ {N E F D : Type 0} (contents : D → Option Contents) (line_is text_is 
       × (AreHanded line_is s.sink.handed → (c : Contents) → contents new.appender.folder ≡ Some c → (name : List ℕ) →
       FileHolds text_is holds s c name)
 
-module _ {N E F D : Type 0} (contents : D → Option Contents) (failed : D → ℕ) (n : Ghosts N) (line_of : E → Settings → PlainContext →
+module _ {N E F D Q : Type 0} (contents : D → Option Contents) (failed : D → ℕ) (n : Ghosts N) (line_of : E → Settings → PlainContext →
     PlainEvent → Option (List ℕ)) (g : FilterGhosts F) where
   -- what a run promises of the files of direct sinks and of queued ones
-  pub record OutputsReachFiles (v : FileTrace N E F D) (turns : List StepWithMask) (w : FileTrace N E F D) : Type 0 where
+  pub record OutputsReachFiles (v : FileTrace N E F D Q) (turns : List StepWithMask) (w : FileTrace N E F D Q) : Type 0 where
     pub files : FilesStand contents failed n line_of g v turns w
     pub queues : QueuesWork contents failed n line_of g v turns w
     pub queue_files : QueueFilesStand contents failed n line_of g v turns w

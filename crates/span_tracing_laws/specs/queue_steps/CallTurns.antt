@@ -13,6 +13,6 @@ pub record CallsMayChangePlaces {T : Type 0} (gives : T → ℕ → QueueCall �
       gives v other later answer w → (instead : T) × gives u other later answer instead × gives instead one call reply w
 
 -- so may those on the sinks of a trace, which are numbered through all its stacks
-abbrev pub TraceCallsMayChangePlaces : (N E F : Type 0) {D : Type 0} → (D → Option Contents) → (D → ℕ) → Type 0
-TraceCallsMayChangePlaces N E F contents failed =
-    CallsMayChangePlaces (DriveGives (drives (CallsIn contents failed) {N = N} {E = E} {F = F}))
+abbrev pub TraceCallsMayChangePlaces : (N E F Q : Type 0) {D : Type 0} → (D → Option Contents) → (D → ℕ) → Type 0
+TraceCallsMayChangePlaces N E F Q contents failed =
+    CallsMayChangePlaces (DriveGives (drives (CallsIn {Q = Q} contents failed) {N = N} {E = E} {F = F}))

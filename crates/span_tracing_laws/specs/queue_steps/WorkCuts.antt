@@ -32,13 +32,13 @@ pub record SameWork {D : Type 0} (contents : D → Option Contents) (one other :
   pub holds_one : Holds contents one.appender files
   pub holds_other : Holds contents other.appender files
 
-module _ {N E F D : Type 0} (contents : D → Option Contents) (failed : D → ℕ) where
+module _ {N E F D Q : Type 0} (contents : D → Option Contents) (failed : D → ℕ) where
   -- a worker's step took so many lines of the sink with a number
-  abbrev pub Stepped : FileTrace N E F D → ℕ → ℕ → Moment → ℕ → FileTrace N E F D → Type 0
+  abbrev pub Stepped : FileTrace N E F D Q → ℕ → ℕ → Moment → ℕ → FileTrace N E F D Q → Type 0
   Stepped v sink lines m taken w = DriveGives (drives (CallsIn contents failed)) v sink (Work lines m) (Worked taken) w
 
 -- Two steps of a worker over one sink at one moment, which lost no line. The sink's folder refuses nothing and takes each write whole.
-pub record TwoSteps {N E F D : Type 0} (contents : D → Option Contents) (failed : D → ℕ) (u v w : FileTrace N E F D) (sink k l a b : ℕ)
+pub record TwoSteps {N E F D Q : Type 0} (contents : D → Option Contents) (failed : D → ℕ) (u v w : FileTrace N E F D Q) (sink k l a b : ℕ)
     (m : Moment) (old cut : QueuedSink D) (h : Held) : Type 0 where
   pub first : Stepped contents failed u sink k m a v
   pub second : Stepped contents failed v sink l m b w
@@ -49,14 +49,14 @@ pub record TwoSteps {N E F D : Type 0} (contents : D → Option Contents) (faile
   pub kept : NoneLost old cut
 
 -- They changed nothing but the sink, and left of its queue and its files what one step of as many lines leaves that finds memory for each.
-pub record JoinsSteps {N E F D : Type 0} (contents : D → Option Contents) (u w : FileTrace N E F D) (sink k l a b : ℕ) (m : Moment)
+pub record JoinsSteps {N E F D Q : Type 0} (contents : D → Option Contents) (u w : FileTrace N E F D Q) (sink k l a b : ℕ) (m : Moment)
     (old cut : QueuedSink D) (h : Held) : Type 0 where
   pub left : w ≡ with_sink u sink (Queued cut)
   pub others_stay : (other : ℕ) → sink ≢ other → sink_at w other ≡ sink_at u other
   pub work : WorksFrom contents (k + l) m h (record { taken = a + b; missed = 0 }) old cut
 
 -- One step of as many lines took as many as the two. It changed nothing but the sink, and left of its queue and files what the two left.
-pub record CutAlike {N E F D : Type 0} (contents : D → Option Contents) (u x : FileTrace N E F D) (sink a b c : ℕ)
+pub record CutAlike {N E F D Q : Type 0} (contents : D → Option Contents) (u x : FileTrace N E F D Q) (sink a b c : ℕ)
     (cut whole : QueuedSink D) : Type 0 where
   pub numbers : c ≡ a + b
   pub left : x ≡ with_sink u sink (Queued whole)
@@ -65,9 +65,9 @@ pub record CutAlike {N E F D : Type 0} (contents : D → Option Contents) (u x :
 
 -- A worker's step may be cut in two at its moment: two steps that lost no line are one step, and each step of as many lines from the same
 -- state that finds memory for each leaves the same.
-pub record TraceWorkMayBeCut (N E F : Type 0) {D : Type 0} (contents : D → Option Contents) (failed : D → ℕ) : Type 0 where
-  pub joined : (u v w : FileTrace N E F D) (sink k l a b : ℕ) (m : Moment) (old cut : QueuedSink D) (h : Held) →
+pub record TraceWorkMayBeCut (N E F Q : Type 0) {D : Type 0} (contents : D → Option Contents) (failed : D → ℕ) : Type 0 where
+  pub joined : (u v w : FileTrace N E F D Q) (sink k l a b : ℕ) (m : Moment) (old cut : QueuedSink D) (h : Held) →
       TwoSteps contents failed u v w sink k l a b m old cut h → JoinsSteps contents u w sink k l a b m old cut h
-  pub cut : (u v w x : FileTrace N E F D) (sink k l a b c : ℕ) (m : Moment) (old cut whole : QueuedSink D) (h : Held) →
+  pub cut : (u v w x : FileTrace N E F D Q) (sink k l a b c : ℕ) (m : Moment) (old cut whole : QueuedSink D) (h : Held) →
       TwoSteps contents failed u v w sink k l a b m old cut h → Stepped contents failed u sink (k + l) m c x →
       sink_at x sink ≡ Some (Queued whole) → NoneMissed old whole → CutAlike contents u x sink a b c cut whole

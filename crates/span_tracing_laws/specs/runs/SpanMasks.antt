@@ -1,5 +1,5 @@
 -- What the machine on skeletons reads of a new span: which outputs see it.
-use Rattle.std.specs.Prelude.{◌≡◌, ◌≤◌, ◌++◌, ℕ, Bool, true, List, length, drop, Option, Some}
+use Rattle.std.specs.Prelude.{◌≡◌, ◌≤◌, ◌++◌, Bool, true, List, length, drop, Some}
 use Rattle.span_registry_layers_store.specs.Verdicts.{all_pass}
 use Rattle.span_registry_layers.specs.SpanNotices.{each_sees}
 use Rattle.span_tracing_outputs.specs.TraceFollows.{some_passes}

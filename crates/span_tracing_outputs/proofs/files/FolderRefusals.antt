@@ -24,7 +24,7 @@ use Rattle.span_tracing_outputs.specs.files.OpenRefusals.{SinkRefuses, SinkTells
 use Rattle.span_tracing_outputs.specs.declared.files.open_error.OpenStackError.{OpenStackError}
 use Rattle.span_tracing_outputs.specs.declared.files.output_spec.OutputSpec.{OutputSpec}
 use Rattle.span_tracing_outputs.specs.declared.files.output_spec.SinkSpec.{SinkSpec}
-use Rattle.span_tracing_outputs.specs.declared.files.output_spec.SinkSpec.TheVariants.{Direct, Queued}
+use Rattle.span_tracing_outputs.specs.declared.files.output_spec.SinkSpec.TheVariants.{Direct, Queued, Live}
 
 -- a refusal goes out as it came
 pub goes_out : {A E : Type 0} (told : E → Type 0) (answer : Result A E) (error : E) → IsErrAnd answer (λ e. e ≡ error) → told error →
@@ -56,9 +56,10 @@ module _ {A : Type 0} where
 
 module _ {D : Type 0} (failed : D → ℕ) where
   -- at any sink memory may be short
-  pub memory_refuses : (key : OutputKey) (sink : SinkSpec D) → SinkRefuses failed key (at_output key OutOfMemory) sink
+  pub memory_refuses : {Q : Type 0} (key : OutputKey) (sink : SinkSpec D Q) → SinkRefuses failed key (at_output key OutOfMemory) sink
   memory_refuses key (Direct builder folder) = inr (inr refl)
   memory_refuses key (Queued builder folder limit lossy) = inr (inr (inr refl))
+  memory_refuses key (Live queue) = refl
 
   refuses_by : (contents : D → Option Contents) (key : OutputKey) (builder : Builder) (folder back : D) (m : Moment) (e : BuildError) →
       Explains contents (builder_names builder) folder m e back → ReportsBuild (failed folder) e (failed back) →
@@ -103,54 +104,56 @@ module _ {D : Type 0} (failed : D → ℕ) (key : OutputKey) (told : OpenStackEr
   named true names told = absurd (limitless names told)
   named false names told = told
 
-  late_sink : (sink : SinkSpec D) → SinkRefuses failed key told sink → SinkTells sink None →
+module _ {D Q : Type 0} (failed : D → ℕ) (key : OutputKey) (told : OpenStackError) where
+  late_sink : (sink : SinkSpec D Q) → SinkRefuses failed key told sink → SinkTells sink None →
       FolderTells failed key told sink ⊎ (told ≡ at_output key OutOfMemory)
-  late_sink (Direct builder folder) refuses good = late_files builder folder refuses good
+  late_sink (Direct builder folder) refuses good = late_files failed key told builder folder refuses good
+  late_sink (Live queue) refuses good = inr refuses
   late_sink (Queued builder folder limit lossy) (inl (at, none)) good =
-      absurd (limitless (builder_names builder) (subst (λ (n : ℕ). LimitTells (n == 0) (builder_names builder) None) none good))
+      absurd (limitless failed key told (builder_names builder) (subst (λ (n : ℕ). LimitTells (n == 0) (builder_names builder) None) none good))
   late_sink (Queued builder folder limit lossy) (inr refuses) good =
-      late_files builder folder refuses (named (limit == 0) (builder_names builder) good)
+      late_files failed key told builder folder refuses (named failed key told (limit == 0) (builder_names builder) good)
 
-  one_late : (sink : SinkSpec D) (sinks : List (SinkSpec D)) → FolderTells failed key told sink ⊎ (told ≡ at_output key OutOfMemory) →
+  one_late : (sink : SinkSpec D Q) (sinks : List (SinkSpec D Q)) → FolderTells failed key told sink ⊎ (told ≡ at_output key OutOfMemory) →
       IsLate failed key told (sink ∷ sinks)
   one_late sink sinks (inl own) = inl (inl own)
   one_late sink sinks (inr memory) = inr memory
 
-  later_late : (sink : SinkSpec D) (sinks : List (SinkSpec D)) → IsLate failed key told sinks → IsLate failed key told (sink ∷ sinks)
+  later_late : (sink : SinkSpec D Q) (sinks : List (SinkSpec D Q)) → IsLate failed key told sinks → IsLate failed key told (sink ∷ sinks)
   later_late sink sinks (inl one) = inl (inr one)
   later_late sink sinks (inr memory) = inr memory
 
-  late_sinks : (sinks : List (SinkSpec D)) → InOne (SinkRefuses failed key told) sinks → SinksTell sinks None → IsLate failed key told sinks
+  late_sinks : (sinks : List (SinkSpec D Q)) → InOne (SinkRefuses failed key told) sinks → SinksTell sinks None → IsLate failed key told sinks
   late_sinks [] one good = absurd one
   late_sinks (sink ∷ sinks) (inl own) good = one_late sink sinks (late_sink sink own good.0)
   late_sinks (sink ∷ sinks) (inr later) good = later_late sink sinks (late_sinks sinks later good.1)
 
-module _ {F D : Type 0} (failed : D → ℕ) (told : OpenStackError) where
-  late_spec : (spec : OutputSpec F D) → RoutingRefuses failed told (routing_of spec) → SinksTell spec.sinks.items None → IsRouted spec →
+module _ {F D Q : Type 0} (failed : D → ℕ) (told : OpenStackError) where
+  late_spec : (spec : OutputSpec F D Q) → RoutingRefuses failed told (routing_of spec) → SinksTell spec.sinks.items None → IsRouted spec →
       IsLate failed spec.key told spec.sinks.items
   late_spec spec (inl one) good routed = late_sinks failed spec.key told spec.sinks.items one good
   late_spec spec (inr (inl bad)) good routed = absurd (let clash : true ≡ false = sym routed ∙ bad.1 in cc)
   late_spec spec (inr (inr memory)) good routed = inr memory
 
-  pub late_specs : (specs : List (OutputSpec F D)) → InOne (RoutingRefuses failed told) (map routing_of specs) → OutputsTell specs None →
-      Every IsRouted specs → InOne (λ (spec : OutputSpec F D). IsLate failed spec.key told spec.sinks.items) specs
+  pub late_specs : (specs : List (OutputSpec F D Q)) → InOne (RoutingRefuses failed told) (map routing_of specs) → OutputsTell specs None →
+      Every IsRouted specs → InOne (λ (spec : OutputSpec F D Q). IsLate failed spec.key told spec.sinks.items) specs
   late_specs [] one good routed = absurd one
   late_specs (spec ∷ specs) (inl own) good routed = inl (late_spec spec own good.0 routed.0)
   late_specs (spec ∷ specs) (inr later) good routed = inr (late_specs specs later good.1 routed.1)
 
-module _ {F D : Type 0} where
-  pub memory_told : (failed : D → ℕ) (specs : List (OutputSpec F D)) (wrong : Option (OutputKey × Refusal)) (told : OpenStackError) →
+module _ {F D Q : Type 0} where
+  pub memory_told : (failed : D → ℕ) (specs : List (OutputSpec F D Q)) (wrong : Option (OutputKey × Refusal)) (told : OpenStackError) →
       told ≡ of_all OutOfMemory → IsToldOf failed specs wrong told
   memory_told failed specs None told is = inr is
   memory_told failed specs (Some w) told is = inr is
 
-  pub names_told : (xs ys : List (OutputSpec F D)) (r told : Option (OutputKey × Refusal)) → xs ≡ ys → r ≡ told → OutputsTell xs r →
+  pub names_told : (xs ys : List (OutputSpec F D Q)) (r told : Option (OutputKey × Refusal)) → xs ≡ ys → r ≡ told → OutputsTell xs r →
       OutputsTell ys told
-  names_told xs ys r told same is own = subst (OutputsTell ys) is (subst (λ (zs : List (OutputSpec F D)). OutputsTell zs r) same own)
+  names_told xs ys r told same is own = subst (OutputsTell ys) is (subst (λ (zs : List (OutputSpec F D Q)). OutputsTell zs r) same own)
 
   -- what is told after good names
-  pub late_out : {A : Type 0} (failed : D → ℕ) (specs : List (OutputSpec F D)) (answer : Result A OpenStackError)
+  pub late_out : {A : Type 0} (failed : D → ℕ) (specs : List (OutputSpec F D Q)) (answer : Result A OpenStackError)
       (error : OpenStackError) → IsErrAnd answer (λ e. e ≡ error) → OutputsTell specs None →
-      InOne (λ (spec : OutputSpec F D). IsLate failed spec.key error spec.sinks.items) specs → NamesAnswer failed specs answer
+      InOne (λ (spec : OutputSpec F D Q). IsLate failed spec.key error spec.sinks.items) specs → NamesAnswer failed specs answer
   late_out failed specs (Ok made) error is names late = absurd is
   late_out failed specs (Err e) error is names late = (None, names, subst (IsToldOf failed specs None) (sym is) (inl late))

@@ -47,7 +47,7 @@ routed_is {S = S} route sinks made gives = by_good (is_good_route (length sinks)
     by_good false is = absurd is
 
 -- a route that is refused isn't good for its sinks
-pub bad_route : {S D : Type 0} (failed : D → ℕ) (opens : SinkSpec D → S → Type 0) (routing : Routing D) (sinks : List S)
+pub bad_route : {S D Q : Type 0} (failed : D → ℕ) (opens : SinkSpec D Q → S → Type 0) (routing : Routing D Q) (sinks : List S)
     (back : UnroutedSinks S) →
     Pairs opens routing.sinks.items sinks → RoutingGives routing.route sinks (Err back) →
     RoutingRefuses failed (at_output routing.key refusals.BadRoute) routing
@@ -146,8 +146,8 @@ pub memory_of_all : (o : Option Refusal) (told : OpenStackError) → told ≡ of
 memory_of_all None told is = tt
 memory_of_all (Some wrong) told is = inr is
 
-module _ {F D : Type 0} (lanes : List PlainLane) where
-  same_keys : (specs : List (OutputSpec F D)) (rows : List (Output (Filtered Shown F))) → Pairs (RowOf lanes) specs rows →
+module _ {F D Q : Type 0} (lanes : List PlainLane) where
+  same_keys : (specs : List (OutputSpec F D Q)) (rows : List (Output (Filtered Shown F))) → Pairs (RowOf lanes) specs rows →
       stacks.keys_of rows ≡ keys_of specs
   same_keys [] [] pairs = refl
   same_keys [] (row ∷ rows) pairs = absurd pairs
@@ -156,7 +156,7 @@ module _ {F D : Type 0} (lanes : List PlainLane) where
       ap (λ (k : OutputKey). k.0 ∷ stacks.keys_of rows) pairs.0.key ∙ ap (λ (ks : List ℕ). spec.key.0 ∷ ks) (same_keys specs rows pairs.1)
 
   -- what is wrong with the outputs is wrong with what is asked for
-  pub same_refusal : (specs : List (OutputSpec F D)) (rows : List (Output (Filtered Shown F))) → Pairs (RowOf lanes) specs rows →
+  pub same_refusal : (specs : List (OutputSpec F D Q)) (rows : List (Output (Filtered Shown F))) → Pairs (RowOf lanes) specs rows →
       rows_refusal rows ≡ outputs_refusal specs
   same_refusal specs rows pairs =
       ap (λ (n : ℕ). if nat_eq n 0 then Some refusals.NoOutput else if nat_le n
@@ -167,7 +167,7 @@ module _ {F D : Type 0} (lanes : List PlainLane) where
       (same_keys specs rows pairs)
 
   -- so it is told
-  pub told_wrong : (specs : List (OutputSpec F D)) (rows : List (Output (Filtered Shown F))) (error : StackError) (told : OpenStackError) →
+  pub told_wrong : (specs : List (OutputSpec F D Q)) (rows : List (Output (Filtered Shown F))) (error : StackError) (told : OpenStackError) →
       Pairs (RowOf lanes) specs rows → told ≡ of_all (stack_refusal error) → IsTold (rows_refusal rows) (stack_refusal error) →
       IsToldOfAll (outputs_refusal specs) told
   told_wrong specs rows error told pairs is wrong =
@@ -176,7 +176,7 @@ module _ {F D : Type 0} (lanes : List PlainLane) where
       (subst (λ (o : Option Refusal). IsTold o (stack_refusal error)) (same_refusal specs rows pairs) wrong))
 
   -- where nothing is wrong any answer will do
-  pub nothing_wrong : (A : Type 0) (specs : List (OutputSpec F D)) (rows : List (Output (Filtered Shown F)))
+  pub nothing_wrong : (A : Type 0) (specs : List (OutputSpec F D Q)) (rows : List (Output (Filtered Shown F)))
       (result : Result A OpenStackError) → Pairs (RowOf lanes) specs rows → rows_refusal rows ≡ None →
       Answers (outputs_refusal specs) result
   nothing_wrong A specs rows result pairs none =
@@ -186,11 +186,11 @@ module _ {F D : Type 0} (lanes : List PlainLane) where
       any (Ok made) = refl
       any (Err told) = tt
 
-  pub nothing_told : (specs : List (OutputSpec F D)) (rows : List (Output (Filtered Shown F))) (told : OpenStackError) →
+  pub nothing_told : (specs : List (OutputSpec F D Q)) (rows : List (Output (Filtered Shown F))) (told : OpenStackError) →
       Pairs (RowOf lanes) specs rows → rows_refusal rows ≡ None → IsToldOfAll (outputs_refusal specs) told
   nothing_told specs rows told pairs none = subst (λ (o : Option Refusal). IsToldOfAll o told) (sym none ∙ same_refusal specs rows pairs) tt
 
-  pub own_keys : (specs : List (OutputSpec F D)) (rows : List (Output (Filtered Shown F))) → Pairs (RowOf lanes) specs rows →
+  pub own_keys : (specs : List (OutputSpec F D Q)) (rows : List (Output (Filtered Shown F))) → Pairs (RowOf lanes) specs rows →
       Every HasOwnKey rows
   own_keys [] [] pairs = tt
   own_keys [] (row ∷ rows) pairs = absurd pairs
@@ -198,8 +198,8 @@ module _ {F D : Type 0} (lanes : List PlainLane) where
   own_keys (spec ∷ specs) (row ∷ rows) pairs =
       (ap (λ (k : OutputKey). k.0) (pairs.0.layer.key ∙ sym pairs.0.key), own_keys specs rows pairs.1)
 
-  pub rows_honest : (honest : F → Type 0) (specs : List (OutputSpec F D)) (rows : List (Output (Filtered Shown F))) →
-      Pairs (RowOf lanes) specs rows → Every (λ (spec : OutputSpec F D). honest spec.filter) specs →
+  pub rows_honest : (honest : F → Type 0) (specs : List (OutputSpec F D Q)) (rows : List (Output (Filtered Shown F))) →
+      Pairs (RowOf lanes) specs rows → Every (λ (spec : OutputSpec F D Q). honest spec.filter) specs →
       Every (λ (row : Output (Filtered Shown F)). honest row.output.filter) rows
   rows_honest honest [] [] pairs each = tt
   rows_honest honest [] (row ∷ rows) pairs each = absurd pairs
@@ -208,8 +208,8 @@ module _ {F D : Type 0} (lanes : List PlainLane) where
       (subst honest (sym pairs.0.filter) each.0, rows_honest honest specs rows pairs.1 each.1)
 
   -- there are sinks for each output
-  pub paired : {S : Type 0} (opens : Routing D → S → Type 0) (specs : List (OutputSpec F D)) (rows : List (Output (Filtered Shown F)))
-      (routings : List (Routing D)) (sinks : List S) (count : ℕ) → Pairs (RowOf lanes) specs rows → routings ≡ map routing_of specs →
+  pub paired : {S : Type 0} (opens : Routing D Q → S → Type 0) (specs : List (OutputSpec F D Q)) (rows : List (Output (Filtered Shown F)))
+      (routings : List (Routing D Q)) (sinks : List S) (count : ℕ) → Pairs (RowOf lanes) specs rows → routings ≡ map routing_of specs →
       Pairs opens routings sinks → count ≡ length rows → length sinks ≡ count
   paired opens specs rows routings sinks count pairs is opened counted =
       same_length opens routings sinks opened ∙ ap length is ∙ length-map specs routing_of ∙

@@ -1,18 +1,19 @@
 -- Each sink of a stack meets just what comes to it.
 use Rattle.std.proofs.Common.{◌≡◌, ◌∙◌, ◌==◌, ℕ, suc, Bool, true, false, if◌then◌else◌, List, [], ◌∷◌, map, length, Option, Some, None}
 use Rattle.std.proofs.Common.{arith}
-use Rattle.std.proofs.Common.{refl, sym, ap, subst, nat_lt, ◌-◌, ◌+◌}
+use Rattle.std.proofs.Common.{refl, sym, ap, subst, nat_lt, ◌-◌, ◌+◌, ◌++◌}
 use Rattle.std.specs.Prelude.{slice_get, slice_set}
 use Rattle.std.specs.Cmp.{unsigned_Decides}
-use Rattle.std.proofs.lemmas.List.{length-set}
+use Rattle.std.proofs.lemmas.List.{length-set, map-append}
 use Rattle.tracing_core_moments.specs.declared.at.At.{At}
 use Rattle.tracing_appender_rolling.specs.folders.Contents.{Contents}
+use Rattle.tracing_appender_queue.specs.declared.queued.fate.Fate.{Fate}
 use Rattle.tracing_appender_queue.specs.declared.queued.queued_sink.QueuedSink.{QueuedSink}
 use Rattle.event_formatter_text.specs.declared.makers.route.Route.{Route}
 use Rattle.span_tracing_skeleton.specs.declared.call.Reply.{Reply}
 use Rattle.span_tracing_skeleton.specs.declared.queue_call.QueueCall.{QueueCall}
 use Rattle.span_tracing_outputs.specs.OutputMachines.{PlainLine}
-use Rattle.span_tracing_outputs.specs.sinks.AnySinks.{CallsAny, TakesAny}
+use Rattle.span_tracing_outputs.specs.sinks.AnySinks.{CallsAny, TakesAny, bytes_in}
 use Rattle.span_tracing_outputs.specs.sinks.OutputRuns.{RunsEach}
 use Rattle.span_tracing_outputs.specs.sinks.Routed.{EachFrom, Routed, TakesRouted, TakesSent, sent_to}
 use Rattle.span_tracing_outputs.specs.sinks.Runs.{TakesRun}
@@ -22,10 +23,13 @@ use Rattle.span_tracing_outputs.specs.sinks.SinkTurns.{SinksMeetTheirs, StackMee
 use Rattle.span_tracing_outputs.specs.sinks.SinkTurns.{run_or_none, turn_for, turns_for}
 use Rattle.span_tracing_outputs.specs.sinks.Takes.{TakesLine}
 use Rattle.span_tracing_outputs.specs.declared.has_sinks.SinkPlace.{SinkPlace}
+use Rattle.span_tracing_outputs.specs.sinks.LiveSinks.{TakesLives}
+use Rattle.span_tracing_outputs.specs.declared.sinks.live.LiveSink.{LiveSink}
 use Rattle.span_tracing_outputs.specs.declared.sinks.any_sink.AnySink.{AnySink}
-use Rattle.span_tracing_outputs.specs.declared.sinks.any_sink.AnySink.TheVariants.{Direct, Queued}
+use Rattle.span_tracing_outputs.specs.declared.sinks.any_sink.AnySink.TheVariants.{Direct, Queued, Live}
 use Rattle.span_tracing_outputs.specs.declared.sinks.sink.RollingSink.{RollingSink}
 use Rattle.span_tracing_outputs.proofs.ListPlaces.{by_bool, same_set, set_other, set_own, stands_within}
+use Rattle.span_tracing_outputs.proofs.sinks.LiveLines.{lives_on}
 use Rattle.span_tracing_outputs.proofs.sinks.OutputRuns.{runs_each_one}
 use Rattle.span_tracing_outputs.proofs.sinks.RoutedLines.{routed_take_theirs}
 use Rattle.span_tracing_outputs.proofs.sinks.Runs.{takes_run_append}
@@ -83,17 +87,17 @@ module _ {S : Type 0} where
     runs_counts (r ∷ rs) (o ∷ os) (n ∷ ns) goes =
         ap (λ (k : ℕ). k ∷ map count ns) (run_counts r o n goes.0) ∙ ap (λ ks. count o ∷ ks) (runs_counts rs os ns goes.1)
 
-module _ {D : Type 0} (contents : D → Option Contents) (failed : D → ℕ) where
+module _ {D Q : Type 0} (contents : D → Option Contents) (failed : D → ℕ) (settles : Q → List ℕ → Fate → Q → Type 0) where
   abbrev Sinks : Type 0
-  Sinks = Routed (AnySink D)
+  Sinks = Routed (AnySink D Q)
 
   abbrev takes : Sinks → At → PlainLine → Sinks → Type 0
-  takes = TakesRouted (TakesAny contents failed)
+  takes = TakesRouted (TakesAny contents failed settles)
 
   abbrev Meets : StackTurn → List Sinks → List Sinks → Type 0
   Meets t olds mids = StackMeets takes (CallsIn contents failed) t olds mids
 
-  sinks_count : (sink : ℕ) (call : QueueCall) (q : Option (AnySink D)) (olds : List (AnySink D)) (reply : Reply) (news : List (AnySink D)) →
+  sinks_count : (sink : ℕ) (call : QueueCall) (q : Option (AnySink D Q)) (olds : List (AnySink D Q)) (reply : Reply) (news : List (AnySink D Q)) →
       ReachesIf (λ s r t. CallsAny contents failed s call r t) sink q olds reply news → length news ≡ length olds
   sinks_count sink call None olds reply news goes = ap length goes.1
   sinks_count sink call (Some s) olds reply news goes = ap length goes.2 ∙ length-set olds sink goes.0
@@ -113,26 +117,26 @@ module _ {D : Type 0} (contents : D → Option Contents) (failed : D → ℕ) wh
   place_counts (Some at) call olds reply news goes = called_counts at call (slice_get olds at.output) olds reply news refl goes
 
   counts_stay : (t : StackTurn) (olds news : List Sinks) → Meets t olds news → map count news ≡ map count olds
-  counts_stay (Offered runs) olds news goes = runs_counts (TakesAny contents failed) runs olds news goes
+  counts_stay (Offered runs) olds news goes = runs_counts (TakesAny contents failed settles) runs olds news goes
   counts_stay (Called number call reply) olds news goes = place_counts (sink_place olds 0 number) call olds reply news goes
 
   -- what one turn makes of the sink with a number of the output at a place; what comes later comes behind it
-  record Met (first : List SinkTurn → List SinkTurn) (news : List Sinks) (place : ℕ) (old : Sinks) (number : ℕ) (sink : AnySink D) :
+  record Met (first : List SinkTurn → List SinkTurn) (news : List Sinks) (place : ℕ) (old : Sinks) (number : ℕ) (sink : AnySink D Q) :
       Type 0 where
     pub routed : Sinks
-    pub after : AnySink D
+    pub after : AnySink D Q
     pub stands : slice_get news place ≡ Some routed
     pub route : routed.route ≡ old.route
     pub its : slice_get routed.sinks number ≡ Some after
-    pub more : (later : List SinkTurn) (last : AnySink D) → SinkMeetsAll contents failed later after last →
-        SinkMeetsAll contents failed (first later) sink last
+    pub more : (later : List SinkTurn) (last : AnySink D Q) → SinkMeetsAll contents failed settles later after last →
+        SinkMeetsAll contents failed settles (first later) sink last
 
   offered : (runs : List (List (At × PlainLine))) (olds news : List Sinks) → RunsEach takes runs olds news → (place : ℕ) (old : Sinks) →
-      slice_get olds place ≡ Some old → (number : ℕ) (sink : AnySink D) → slice_get old.sinks number ≡ Some sink →
+      slice_get olds place ≡ Some old → (number : ℕ) (sink : AnySink D Q) → slice_get old.sinks number ≡ Some sink →
       Met (turn_for olds place number old.route (Offered runs)) news place old number sink
   offered runs olds news goes place old there number sink its =
       let one = runs_each_one takes place runs olds news old goes there in
-      let theirs = routed_take_theirs (TakesAny contents failed) one.0 old one.1 one.4 in
+      let theirs = routed_take_theirs (TakesAny contents failed settles) one.0 old one.1 one.4 in
       let taken = theirs.sinks number sink its in
       record {
         routed = one.1;
@@ -141,7 +145,7 @@ module _ {D : Type 0} (contents : D → Option Contents) (failed : D → ℕ) wh
         route = theirs.route;
         its = taken.1;
         more = λ later last goes. subst (λ (o : Option (List (At × PlainLine))).
-            SinkMeetsAll contents failed (Came (sent_to old.route number (run_or_none o)) ∷ later) sink last) (sym one.2)
+            SinkMeetsAll contents failed settles (Came (sent_to old.route number (run_or_none o)) ∷ later) sink last) (sym one.2)
             (taken.0, taken.2, goes);
       }
 
@@ -149,7 +153,7 @@ module _ {D : Type 0} (contents : D → Option Contents) (failed : D → ℕ) wh
   AskedAt b call reply = asked_if b call reply
 
   -- nothing comes to it
-  spared : (b : Bool) (call : QueueCall) (reply : Reply) (news : List Sinks) (place : ℕ) (old : Sinks) (number : ℕ) (sink : AnySink D)
+  spared : (b : Bool) (call : QueueCall) (reply : Reply) (news : List Sinks) (place : ℕ) (old : Sinks) (number : ℕ) (sink : AnySink D Q)
       (routed : Sinks) → b ≡ false → slice_get news place ≡ Some routed → routed.route ≡ old.route →
       slice_get routed.sinks number ≡ Some sink → Met (AskedAt b call reply) news place old number sink
   spared b call reply news place old number sink routed off stands route its = record {
@@ -158,11 +162,11 @@ module _ {D : Type 0} (contents : D → Option Contents) (failed : D → ℕ) wh
     stands = stands;
     route = route;
     its = its;
-    more = λ later last goes. subst (λ (c : Bool). SinkMeetsAll contents failed (asked_if c call reply later) sink last) (sym off) goes;
+    more = λ later last goes. subst (λ (c : Bool). SinkMeetsAll contents failed settles (asked_if c call reply later) sink last) (sym off) goes;
   }
 
   -- the call comes to it
-  asked : (b : Bool) (call : QueueCall) (reply : Reply) (news : List Sinks) (place : ℕ) (old : Sinks) (number : ℕ) (sink after : AnySink D)
+  asked : (b : Bool) (call : QueueCall) (reply : Reply) (news : List Sinks) (place : ℕ) (old : Sinks) (number : ℕ) (sink after : AnySink D Q)
       (routed : Sinks) → b ≡ true → slice_get news place ≡ Some routed → routed.route ≡ old.route →
       slice_get routed.sinks number ≡ Some after → CallsAny contents failed sink call reply after →
       Met (AskedAt b call reply) news place old number sink
@@ -172,7 +176,7 @@ module _ {D : Type 0} (contents : D → Option Contents) (failed : D → ℕ) wh
     stands = stands;
     route = route;
     its = its;
-    more = λ later last rest. subst (λ (c : Bool). SinkMeetsAll contents failed (asked_if c call reply later) sink last) (sym on)
+    more = λ later last rest. subst (λ (c : Bool). SinkMeetsAll contents failed settles (asked_if c call reply later) sink last) (sym on)
         (after, goes, rest);
   }
 
@@ -183,23 +187,23 @@ module _ {D : Type 0} (contents : D → Option Contents) (failed : D → ℕ) wh
   -- the call is for a sink of the same output
   module _ (at : SinkPlace) (call : QueueCall) (olds : List Sinks) (reply : Reply) (news : List Sinks) (place : ℕ) (old : Sinks)
       (number : ℕ)
-      (sink : AnySink D) (routed : Sinks) (stands : slice_get news place ≡ Some routed) (route : routed.route ≡ old.route)
+      (sink : AnySink D Q) (routed : Sinks) (stands : slice_get news place ≡ Some routed) (route : routed.route ≡ old.route)
       (its : slice_get old.sinks number ≡ Some sink) (here : (at.output == place) ≡ true) where
-    other_sink : (q : Option (AnySink D)) → (at.sink == number) ≡ false →
+    other_sink : (q : Option (AnySink D Q)) → (at.sink == number) ≡ false →
         ReachesIf (λ s r t. CallsAny contents failed s call r t) at.sink q old.sinks reply routed.sinks →
         Met (AskedAt (is_there (Some at) place number) call reply) news place old number sink
     other_sink None apart goes =
         spared (is_there (Some at) place number) call reply news place old number sink routed (there_at at place number false here apart)
-        stands route (ap (λ (ss : List (AnySink D)). slice_get ss number) goes.1 ∙ its)
+        stands route (ap (λ (ss : List (AnySink D Q)). slice_get ss number) goes.1 ∙ its)
     other_sink (Some s) apart goes =
         spared (is_there (Some at) place number) call reply news place old number sink routed (there_at at place number false here apart)
-        stands route (ap (λ (ss : List (AnySink D)). slice_get ss number) goes.2 ∙
+        stands route (ap (λ (ss : List (AnySink D Q)). slice_get ss number) goes.2 ∙
         set_other old.sinks at.sink number goes.0 (turned at.sink number apart) ∙ its)
       where
         turned : (a b : ℕ) → (a == b) ≡ false → (b == a) ≡ false
         turned a b apart = grind arith
 
-    same_sink : (q : Option (AnySink D)) → slice_get old.sinks at.sink ≡ q → (at.sink == number) ≡ true →
+    same_sink : (q : Option (AnySink D Q)) → slice_get old.sinks at.sink ≡ q → (at.sink == number) ≡ true →
         ReachesIf (λ s r t. CallsAny contents failed s call r t) at.sink q old.sinks reply routed.sinks →
         Met (AskedAt (is_there (Some at) place number) call reply) news place old number sink
     same_sink None is here_too goes =
@@ -212,10 +216,10 @@ module _ {D : Type 0} (contents : D → Option Contents) (failed : D → ℕ) wh
         let one : s ≡ sink = cc in
         asked (is_there (Some at) place number) call reply news place old number sink goes.0 routed
         (there_at at place number true here here_too) stands route
-        (ap (λ (ss : List (AnySink D)). slice_get ss number) goes.2 ∙
+        (ap (λ (ss : List (AnySink D Q)). slice_get ss number) goes.2 ∙
         ap (λ (k : ℕ). slice_get (slice_set old.sinks at.sink goes.0) k) (sym same) ∙
         set_own old.sinks at.sink goes.0 (stands_within old.sinks at.sink s is))
-        (subst (λ (t : AnySink D). CallsAny contents failed t call reply goes.0) one goes.1)
+        (subst (λ (t : AnySink D Q). CallsAny contents failed t call reply goes.0) one goes.1)
 
     same_output : CallsRouted contents failed at.sink call old reply routed →
         Met (AskedAt (is_there (Some at) place number) call reply) news place old number sink
@@ -225,7 +229,7 @@ module _ {D : Type 0} (contents : D → Option Contents) (failed : D → ℕ) wh
 
   reached : (at : SinkPlace) (call : QueueCall) (q : Option Sinks) (olds : List Sinks) (reply : Reply) (news : List Sinks) →
       slice_get olds at.output ≡ q → ReachesIf (λ o r p. CallsRouted contents failed at.sink call o r p) at.output q olds reply news →
-      (place : ℕ) (old : Sinks) → slice_get olds place ≡ Some old → (number : ℕ) (sink : AnySink D) →
+      (place : ℕ) (old : Sinks) → slice_get olds place ≡ Some old → (number : ℕ) (sink : AnySink D Q) →
       slice_get old.sinks number ≡ Some sink → Met (AskedAt (is_there (Some at) place number) call reply) news place old number sink
   reached at call None olds reply news is goes place old there number sink its =
       spared (is_there (Some at) place number) call reply news place old number sink old
@@ -258,7 +262,7 @@ module _ {D : Type 0} (contents : D → Option Contents) (failed : D → ℕ) wh
 
   called : (q : Option SinkPlace) (call : QueueCall) (olds : List Sinks) (reply : Reply) (news : List Sinks) →
       CallsAt contents failed q call olds reply news → (place : ℕ) (old : Sinks) → slice_get olds place ≡ Some old → (number : ℕ)
-      (sink : AnySink D) → slice_get old.sinks number ≡ Some sink →
+      (sink : AnySink D Q) → slice_get old.sinks number ≡ Some sink →
       Met (AskedAt (is_there q place number) call reply) news place old number sink
   called None call olds reply news goes place old there number sink its =
       spared false call reply news place old number sink old refl (ap (λ (os : List Sinks). slice_get os place) goes.1 ∙ there) refl its
@@ -266,15 +270,15 @@ module _ {D : Type 0} (contents : D → Option Contents) (failed : D → ℕ) wh
       reached at call (slice_get olds at.output) olds reply news refl goes place old there number sink its
 
   one_turn : (t : StackTurn) (olds news : List Sinks) → Meets t olds news → (place : ℕ) (old : Sinks) → slice_get olds place ≡ Some old →
-      (number : ℕ) (sink : AnySink D) → slice_get old.sinks number ≡ Some sink →
+      (number : ℕ) (sink : AnySink D Q) → slice_get old.sinks number ≡ Some sink →
       Met (turn_for olds place number old.route t) news place old number sink
   one_turn (Offered runs) olds news goes place old there number sink its = offered runs olds news goes place old there number sink its
   one_turn (Called n call reply) olds news goes place old there number sink its =
       called (sink_place olds 0 n) call olds reply news goes place old there number sink its
 
   each : (ts : List StackTurn) (olds news : List Sinks) → StackMeetsAll takes (CallsIn contents failed) ts olds news → (place : ℕ)
-      (old : Sinks) → slice_get olds place ≡ Some old → (number : ℕ) (sink : AnySink D) → slice_get old.sinks number ≡ Some sink →
-      MetTheirs contents failed ts olds news place old number sink
+      (old : Sinks) → slice_get olds place ≡ Some old → (number : ℕ) (sink : AnySink D Q) → slice_get old.sinks number ≡ Some sink →
+      MetTheirs contents failed settles ts olds news place old number sink
   each [] olds news same place old there number sink its = record {
     routed = old;
     after = sink;
@@ -293,34 +297,52 @@ module _ {D : Type 0} (contents : D → Option Contents) (failed : D → ℕ) wh
         route = later.route ∙ one.route;
         its = later.its;
         met = one.more (turns_for olds place number old.route ts) later.after
-            (subst (λ (us : List SinkTurn). SinkMeetsAll contents failed us one.after later.after)
+            (subst (λ (us : List SinkTurn). SinkMeetsAll contents failed settles us one.after later.after)
             (turns_same mids olds (counts_stay t olds mids first) place number one.routed.route ts ∙
             ap (λ (r : Route). turns_for olds place number r ts) one.route) later.met);
       }
 
-  direct : (ts : List SinkTurn) (old : RollingSink D) (new : AnySink D) → SinkMeetsAll contents failed ts (Direct old) new →
+  direct : (ts : List SinkTurn) (old : RollingSink D) (new : AnySink D Q) → SinkMeetsAll contents failed settles ts (Direct old) new →
       (made : RollingSink D) × (new ≡ Direct made) × TakesRun (TakesLine contents failed) (came_in ts) old made
   direct [] old new same = (old, same, refl)
   direct (Came lines ∷ ts) old new (mid, took, rest) =
-      let first = (kinds_stay contents failed).direct lines old mid took in
-      let later = direct ts first.0 new (subst (λ (s : AnySink D). SinkMeetsAll contents failed ts s new) first.1 rest) in (
+      let first = (kinds_stay contents failed settles).direct lines old mid took in
+      let later = direct ts first.0 new (subst (λ (s : AnySink D Q). SinkMeetsAll contents failed settles ts s new) first.1 rest) in (
         later.0,
         later.1,
         takes_run_append (TakesLine contents failed) lines (came_in ts) old first.0 later.0 first.2 later.2,
       )
   direct (Asked call reply ∷ ts) old new (mid, refused, rest) =
-      direct ts old new (subst (λ (s : AnySink D). SinkMeetsAll contents failed ts s new) refused.1 rest)
+      direct ts old new (subst (λ (s : AnySink D Q). SinkMeetsAll contents failed settles ts s new) refused.1 rest)
 
-  queued : (ts : List SinkTurn) (old : QueuedSink D) (new : AnySink D) → SinkMeetsAll contents failed ts (Queued old) new →
+  queued : (ts : List SinkTurn) (old : QueuedSink D) (new : AnySink D Q) → SinkMeetsAll contents failed settles ts (Queued old) new →
       (made : QueuedSink D) × (new ≡ Queued made) × QueueMeetsAll contents failed ts old made
   queued [] old new same = (old, same, refl)
   queued (Came lines ∷ ts) old new (mid, took, rest) =
-      let first = (kinds_stay contents failed).queued lines old mid took in
-      let later = queued ts first.0 new (subst (λ (s : AnySink D). SinkMeetsAll contents failed ts s new) first.1 rest) in
+      let first = (kinds_stay contents failed settles).queued lines old mid took in
+      let later = queued ts first.0 new (subst (λ (s : AnySink D Q). SinkMeetsAll contents failed settles ts s new) first.1 rest) in
       (later.0, later.1, (first.0, first.2, later.2))
   queued (Asked call reply ∷ ts) old new (Direct mid, goes, rest) = absurd goes
+  queued (Asked call reply ∷ ts) old new (Live mid, goes, rest) = absurd goes
   queued (Asked call reply ∷ ts) old new (Queued mid, goes, rest) =
       let later = queued ts mid new rest in (later.0, later.1, (mid, goes, later.2))
 
-  pub meet_theirs : SinksMeetTheirs contents failed
-  meet_theirs = record { each = each; direct = direct; queued = queued }
+  bytes_on : (some more : List (At × PlainLine)) → bytes_in (some ++ more) ≡ bytes_in some ++ bytes_in more
+  bytes_on some more = map-append (λ (x : At × PlainLine). x.1.bytes) some more
+
+  live : (ts : List SinkTurn) (old : LiveSink Q) (new : AnySink D Q) → SinkMeetsAll contents failed settles ts (Live old) new →
+      (made : LiveSink Q) × (new ≡ Live made) × TakesLives settles (bytes_in (came_in ts)) old made
+  live [] old new same = (old, same, record { fates = []; settled = refl; missed = refl; lost = refl })
+  live (Came lines ∷ ts) old new (mid, took, rest) =
+      let first = (kinds_stay contents failed settles).live lines old mid took in
+      let later = live ts first.0 new (subst (λ (s : AnySink D Q). SinkMeetsAll contents failed settles ts s new) first.1 rest) in (
+        later.0,
+        later.1,
+        subst (λ (ls : List (List ℕ)). TakesLives settles ls old later.0) (sym (bytes_on lines (came_in ts)))
+            (lives_on settles (bytes_in lines) (bytes_in (came_in ts)) old first.0 later.0 first.2 later.2),
+      )
+  live (Asked call reply ∷ ts) old new (mid, refused, rest) =
+      live ts old new (subst (λ (s : AnySink D Q). SinkMeetsAll contents failed settles ts s new) refused.1 rest)
+
+  pub meet_theirs : SinksMeetTheirs contents failed settles
+  meet_theirs = record { each = each; direct = direct; queued = queued; live = live }

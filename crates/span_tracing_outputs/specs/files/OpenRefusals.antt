@@ -16,7 +16,7 @@ use Rattle.span_tracing_outputs.specs.declared.files.open_error.OpenStackError.{
 use Rattle.span_tracing_outputs.specs.declared.files.opening.Routing.{Routing}
 use Rattle.span_tracing_outputs.specs.declared.files.output_spec.OutputSpec.{OutputSpec}
 use Rattle.span_tracing_outputs.specs.declared.files.output_spec.SinkSpec.{SinkSpec}
-use Rattle.span_tracing_outputs.specs.declared.files.output_spec.SinkSpec.TheVariants.{Direct, Queued}
+use Rattle.span_tracing_outputs.specs.declared.files.output_spec.SinkSpec.TheVariants.{Direct, Queued, Live}
 
 -- what is told of an output
 abbrev pub at_output : OutputKey → Refusal → OpenStackError
@@ -61,23 +61,26 @@ module _ {D : Type 0} (failed : D → ℕ) where
   FilesTell key told folder =
       (fault : InitError) × (told ≡ of_sink key (builds.Init fault)) × (back : D) × Rises (failed folder) (failed back)
 
-  -- so of a sink
-  abbrev pub FolderTells : OutputKey → OpenStackError → SinkSpec D → Type 0
-  FolderTells key told (Direct builder folder) = FilesTell key told folder
-  FolderTells key told (Queued builder folder limit lossy) = FilesTell key told folder
+module _ {D Q : Type 0} (failed : D → ℕ) where
+  -- so of a sink; a live one has no folder
+  abbrev pub FolderTells : OutputKey → OpenStackError → SinkSpec D Q → Type 0
+  FolderTells key told (Direct builder folder) = FilesTell failed key told folder
+  FolderTells key told (Queued builder folder limit lossy) = FilesTell failed key told folder
+  FolderTells key told (Live queue) = ⊥
 
   -- the folder of one of the sinks refused, or there was no memory
-  abbrev pub IsLate : OutputKey → OpenStackError → List (SinkSpec D) → Type 0
+  abbrev pub IsLate : OutputKey → OpenStackError → List (SinkSpec D Q) → Type 0
   IsLate key told sinks = InOne (FolderTells key told) sinks ⊎ (told ≡ at_output key OutOfMemory)
 
-module _ {D : Type 0} where
-  -- what is wrong with a sink's queue, or with the names of its files
-  abbrev pub SinkTells : SinkSpec D → Option Refusal → Type 0
+module _ {D Q : Type 0} where
+  -- what is wrong with a sink's queue, or with the names of its files; with a live one nothing is
+  abbrev pub SinkTells : SinkSpec D Q → Option Refusal → Type 0
   SinkTells (Direct builder folder) told = NamesTell (builder_names builder) told
   SinkTells (Queued builder folder limit lossy) told = LimitTells (limit == 0) (builder_names builder) told
+  SinkTells (Live queue) told = told ≡ None
 
   -- the first queue without room or bad name, sinks in order
-  abbrev pub SinksTell : List (SinkSpec D) → Option Refusal → Type 0
+  abbrev pub SinksTell : List (SinkSpec D Q) → Option Refusal → Type 0
   SinksTell sinks told = FirstTells SinkTells sinks told
 
 module _ {D : Type 0} (failed : D → ℕ) where
@@ -87,43 +90,45 @@ module _ {D : Type 0} (failed : D → ℕ) where
       ((told ≡ at_output key told.refusal) × NamesTell (builder_names builder) (Some told.refusal)) ⊎
       (FilesTell failed key told folder ⊎ (told ≡ at_output key OutOfMemory))
 
+module _ {D Q : Type 0} (failed : D → ℕ) where
   -- so of a sink; or its queue has no room for a line
-  abbrev pub SinkRefuses : OutputKey → OpenStackError → SinkSpec D → Type 0
-  SinkRefuses key told (Direct builder folder) = FilesRefuse key told builder folder
+  abbrev pub SinkRefuses : OutputKey → OpenStackError → SinkSpec D Q → Type 0
+  SinkRefuses key told (Direct builder folder) = FilesRefuse failed key told builder folder
   SinkRefuses key told (Queued builder folder limit lossy) =
-      ((told ≡ at_output key ZeroLimit) × (limit ≡ 0)) ⊎ FilesRefuse key told builder folder
+      ((told ≡ at_output key ZeroLimit) × (limit ≡ 0)) ⊎ FilesRefuse failed key told builder folder
+  SinkRefuses key told (Live queue) = told ≡ at_output key OutOfMemory
 
   -- a sink of an output can't be opened, or its route isn't good, or there is no memory
-  abbrev pub RoutingRefuses : OpenStackError → Routing D → Type 0
+  abbrev pub RoutingRefuses : OpenStackError → Routing D Q → Type 0
   RoutingRefuses told routing =
       InOne (SinkRefuses routing.key told) routing.sinks.items ⊎
       ((told ≡ at_output routing.key BadRoute) × (is_good_route (length routing.sinks.items) routing.route ≡ false)) ⊎
       (told ≡ at_output routing.key OutOfMemory)
 
-module _ {F D : Type 0} where
+module _ {F D Q : Type 0} where
   -- what is wrong with the names of an output's files, with its key
-  abbrev pub OutputTells : OutputSpec F D → Option (OutputKey × Refusal) → Type 0
+  abbrev pub OutputTells : OutputSpec F D Q → Option (OutputKey × Refusal) → Type 0
   OutputTells spec None = SinksTell spec.sinks.items None
   OutputTells spec (Some told) = (told.0 ≡ spec.key) × SinksTell spec.sinks.items (Some told.1)
 
   -- the first queue without room or bad name, outputs and sinks in order
-  abbrev pub OutputsTell : List (OutputSpec F D) → Option (OutputKey × Refusal) → Type 0
+  abbrev pub OutputsTell : List (OutputSpec F D Q) → Option (OutputKey × Refusal) → Type 0
   OutputsTell specs told = FirstTells OutputTells specs told
 
   -- its route is good for as many sinks as it has, as that of an output that `OutputSpec::new` made
-  abbrev pub IsRouted : OutputSpec F D → Type 0
+  abbrev pub IsRouted : OutputSpec F D Q → Type 0
   IsRouted spec = is_good_route (length spec.sinks.items) spec.route ≡ true
 
-module _ {F D : Type 0} (failed : D → ℕ) where
+module _ {F D Q : Type 0} (failed : D → ℕ) where
   -- the first of these is told with its output, or out of memory; where there is none, what one of the outputs meets where its files
   -- are opened, or out of memory before
-  abbrev pub IsToldOf : List (OutputSpec F D) → Option (OutputKey × Refusal) → OpenStackError → Type 0
+  abbrev pub IsToldOf : List (OutputSpec F D Q) → Option (OutputKey × Refusal) → OpenStackError → Type 0
   IsToldOf specs (Some wrong) told = (told ≡ at_output wrong.0 wrong.1) ⊎ (told ≡ of_all OutOfMemory)
   IsToldOf specs None told =
-      InOne (λ (spec : OutputSpec F D). IsLate failed spec.key told spec.sinks.items) specs ⊎ (told ≡ of_all OutOfMemory)
+      InOne (λ (spec : OutputSpec F D Q). IsLate failed spec.key told spec.sinks.items) specs ⊎ (told ≡ of_all OutOfMemory)
 
   -- all queues of a stack that is made have room, and all names are good; of one that isn't the first that hasn't is told, or what comes
   -- after names
-  abbrev pub NamesAnswer : {A : Type 0} → List (OutputSpec F D) → Result A OpenStackError → Type 0
+  abbrev pub NamesAnswer : {A : Type 0} → List (OutputSpec F D Q) → Result A OpenStackError → Type 0
   NamesAnswer specs (Ok made) = OutputsTell specs None
   NamesAnswer specs (Err told) = (wrong : Option (OutputKey × Refusal)) × OutputsTell specs wrong × IsToldOf specs wrong told

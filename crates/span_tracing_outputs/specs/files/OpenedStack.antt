@@ -37,7 +37,7 @@ use Rattle.span_tracing_outputs.specs.declared.files.open_error.OpenStackError.{
 use Rattle.span_tracing_outputs.specs.declared.files.opening.Routing.{Routing}
 use Rattle.span_tracing_outputs.specs.declared.files.output_spec.OutputSpec.{OutputSpec}
 use Rattle.span_tracing_outputs.specs.declared.files.output_spec.SinkSpec.{SinkSpec}
-use Rattle.span_tracing_outputs.specs.declared.files.output_spec.SinkSpec.TheVariants.{Direct, Queued}
+use Rattle.span_tracing_outputs.specs.declared.files.output_spec.SinkSpec.TheVariants.{Direct, Queued, Live}
 
 abbrev pub stack_refusal : StackError → Refusal
 stack_refusal errors.NoOutput = refusals.NoOutput
@@ -58,21 +58,21 @@ Pairs r [] (y ∷ ys) = ⊥
 Pairs r (x ∷ xs) [] = ⊥
 Pairs r (x ∷ xs) (y ∷ ys) = r x y × Pairs r xs ys
 
-module _ {F D : Type 0} where
+module _ {F D Q : Type 0} where
   -- an output's layer writes the lines that are asked for, under the output's key, and knows these threads of lanes
-  pub record RowOf (lanes : List PlainLane) (spec : OutputSpec F D) (row : Output (Filtered Shown F)) : Type 0 where
+  pub record RowOf (lanes : List PlainLane) (spec : OutputSpec F D Q) (row : Output (Filtered Shown F)) : Type 0 where
     pub key : row.key ≡ spec.key
     pub filter : row.output.filter ≡ spec.filter
     pub layer : DescribesLayer spec.lines spec.key lanes row.output.layer
 
-  abbrev pub routing_of : OutputSpec F D → Routing D
+  abbrev pub routing_of : OutputSpec F D Q → Routing D Q
   routing_of spec = record { key = spec.key; route = spec.route; sinks = spec.sinks }
 
-  abbrev pub keys_of : List (OutputSpec F D) → List ℕ
-  keys_of specs = map (λ (spec : OutputSpec F D). spec.key.0) specs
+  abbrev pub keys_of : List (OutputSpec F D Q) → List ℕ
+  keys_of specs = map (λ (spec : OutputSpec F D Q). spec.key.0) specs
 
   -- what is wrong with the outputs themselves
-  abbrev pub outputs_refusal : List (OutputSpec F D) → Option Refusal
+  abbrev pub outputs_refusal : List (OutputSpec F D Q) → Option Refusal
   outputs_refusal specs =
       if nat_eq (length specs) 0 then Some refusals.NoOutput else if nat_le (length specs)
       64 then (if stacks.has_equal_keys (keys_of specs) then Some refusals.EqualKeys else None) else Some refusals.TooManyFilters
@@ -120,22 +120,28 @@ module _ {D : Type 0} (contents : D → Option Contents) (failed : D → ℕ) (m
     pub built : IsBuilt contents failed (builder_names builder) folder m appender
     pub whole : is_whole builder ≡ true
 
-  -- a sink over such a file, which dropped no line yet, or for whose queue no line waits
-  abbrev pub OpensSink : SinkSpec D → AnySink D → Type 0
-  OpensSink (Direct builder folder) (sinks.Direct sink) = OpensFiles builder folder sink.appender × (sink.dropped ≡ 0)
+module _ {D Q : Type 0} (contents : D → Option Contents) (failed : D → ℕ) (m : Moment) where
+  -- A sink over such a file, which dropped no line yet, or for whose queue no line waits. A live queue is taken as it is.
+  abbrev pub OpensSink : SinkSpec D Q → AnySink D Q → Type 0
+  OpensSink (Direct builder folder) (sinks.Direct sink) = OpensFiles contents failed m builder folder sink.appender × (sink.dropped ≡ 0)
   OpensSink (Direct builder folder) (sinks.Queued sink) = ⊥
+  OpensSink (Direct builder folder) (sinks.Live sink) = ⊥
   OpensSink (Queued builder folder limit lossy) (sinks.Queued sink) =
-      OpensFiles builder folder sink.appender × (sink.waiting ≡ nothing_at (new_queue limit lossy))
+      OpensFiles contents failed m builder folder sink.appender × (sink.waiting ≡ nothing_at (new_queue limit lossy))
   OpensSink (Queued builder folder limit lossy) (sinks.Direct sink) = ⊥
+  OpensSink (Queued builder folder limit lossy) (sinks.Live sink) = ⊥
+  OpensSink (Live queue) (sinks.Direct sink) = ⊥
+  OpensSink (Live queue) (sinks.Queued sink) = ⊥
+  OpensSink (Live queue) (sinks.Live sink) = sink ≡ record { queue = queue; missed = 0; lost = 0 }
 
-  pub record OpensRouting (routing : Routing D) (routed : Routed (AnySink D)) : Type 0 where
+  pub record OpensRouting (routing : Routing D Q) (routed : Routed (AnySink D Q)) : Type 0 where
     pub route : routed.route ≡ routing.route
     pub sinks : Pairs OpensSink routing.sinks.items routed.sinks
 
-module _ {F D : Type 0} (contents : D → Option Contents) (failed : D → ℕ) (g : FilterGhosts F) (h : LayerGhosts Shown) (m : Moment)
+module _ {F D Q : Type 0} (contents : D → Option Contents) (failed : D → ℕ) (g : FilterGhosts F) (h : LayerGhosts Shown) (m : Moment)
     (lanes : List PlainLane) where
   -- a new stack of the outputs, whose lines know these threads of lanes, and whose files are all open
-  pub record OpensStack (specs : List (OutputSpec F D)) (made : TraceStackValue Fields (Format LineFormat Timer) F (Routed (AnySink D)))
+  pub record OpensStack (specs : List (OutputSpec F D Q)) (made : TraceStackValue Fields (Format LineFormat Timer) F (Routed (AnySink D Q)))
       : Type 0 where
     pub outputs : List (Output (Filtered Shown F))
     pub stack : LinedStack Fields (Format LineFormat Timer) F

@@ -10,16 +10,16 @@ use Rattle.span_tracing_outputs.specs.declared.files.output_spec.OutputSpec.{Out
 use Rattle.span_tracing_outputs.specs.declared.files.output_spec.SinkSpec.{SinkSpec}
 use Rattle.span_tracing_outputs.specs.declared.files.output_spec.SpecRefusal.{SpecRefusal}
 
-module _ {F D : Type 0} where
+module _ {F D Q : Type 0} where
   -- all comes back
-  pub record ComesBack (f : F) (l : LineSettings) (r : Route) (xs : List (SinkSpec D)) (refused : SpecRefusal F D) : Type 0 where
+  pub record ComesBack (f : F) (l : LineSettings) (r : Route) (xs : List (SinkSpec D Q)) (refused : SpecRefusal F D Q) : Type 0 where
     pub filter : refused.filter ≡ f
     pub lines : refused.lines ≡ l
     pub route : refused.route ≡ r
     pub sinks : refused.sinks.items ≡ xs
 
   -- it is as it is asked for
-  pub record IsAsked (k : OutputKey) (f : F) (l : LineSettings) (r : Route) (xs : List (SinkSpec D)) (spec : OutputSpec F D) : Type 0 where
+  pub record IsAsked (k : OutputKey) (f : F) (l : LineSettings) (r : Route) (xs : List (SinkSpec D Q)) (spec : OutputSpec F D Q) : Type 0 where
     pub key : spec.key ≡ k
     pub filter : spec.filter ≡ f
     pub lines : spec.lines ≡ l
@@ -27,7 +27,7 @@ module _ {F D : Type 0} where
     pub sinks : spec.sinks.items ≡ xs
 
   -- whether the route is good for so many sinks decides first, and then whether JSON lacks its fields
-  abbrev pub SpecIf : Bool → Bool → OutputKey → F → LineSettings → Route → List (SinkSpec D) → Result (OutputSpec F D) (SpecRefusal F D) →
+  abbrev pub SpecIf : Bool → Bool → OutputKey → F → LineSettings → Route → List (SinkSpec D Q) → Result (OutputSpec F D Q) (SpecRefusal F D Q) →
       Type 0
   SpecIf false json key filter lines route sinks (Ok spec) = ⊥
   SpecIf false json key filter lines route sinks (Err refused) = (refused.error ≡ BadRoute) × ComesBack filter lines route sinks refused
@@ -37,6 +37,6 @@ module _ {F D : Type 0} where
   SpecIf true false key filter lines route sinks (Ok spec) = IsAsked key filter lines route sinks spec
   SpecIf true false key filter lines route sinks (Err refused) = ⊥
 
-  abbrev pub SpecGives : OutputKey → F → LineSettings → Route → List (SinkSpec D) → Result (OutputSpec F D) (SpecRefusal F D) → Type 0
+  abbrev pub SpecGives : OutputKey → F → LineSettings → Route → List (SinkSpec D Q) → Result (OutputSpec F D Q) (SpecRefusal F D Q) → Type 0
   SpecGives key filter lines route sinks result = SpecIf (is_good_route (length sinks) route) (needs_json lines) key filter lines route
       sinks result

@@ -1,5 +1,5 @@
 -- A sink, direct or queued, and calls on its queue.
-use Rattle.std.specs.Prelude.{◌≡◌, ◌≤◌, ℕ, Bool, true, false, List, length, map, Option, Some, None, Result, Ok, Err}
+use Rattle.std.specs.Prelude.{◌≡◌, ◌≤◌, ◌<◌, ℕ, Bool, true, false, List, length, map, Option, Some, None, Result, Ok, Err}
 use Rattle.tracing_core_moments.specs.declared.at.At.{At}
 use Rattle.tracing_core_moments.specs.declared.moment.Moment.{Moment}
 use Rattle.tracing_core_moments.specs.Moments.{is_moment}
@@ -34,7 +34,9 @@ use Rattle.span_tracing_outputs.specs.sinks.Takes.{TakesLine}
 use Rattle.span_tracing_outputs.specs.declared.sinks.sink.RollingSink.{RollingSink}
 use Rattle.tracing_appender_rolling.specs.declared.appender.RollingFileAppender.{RollingFileAppender}
 use Rattle.span_tracing_outputs.specs.declared.sinks.any_sink.AnySink.{AnySink}
-use Rattle.span_tracing_outputs.specs.declared.sinks.any_sink.AnySink.TheVariants.{Direct, Queued}
+use Rattle.span_tracing_outputs.specs.declared.sinks.any_sink.AnySink.TheVariants.{Direct, Queued, Live}
+use Rattle.span_tracing_outputs.specs.declared.sinks.live.LiveSink.{LiveSink}
+use Rattle.span_tracing_outputs.specs.sinks.LiveSinks.{TakesLive, TakesLives}
 
 -- a line came to the queue, and nothing was written
 pub record TakesQueued {D : Type 0} (old : QueuedSink D) (line : List ℕ) (new : QueuedSink D) : Type 0 where
@@ -45,7 +47,8 @@ pub record TakesQueued {D : Type 0} (old : QueuedSink D) (line : List ℕ) (new 
 -- the mark was put, or refused
 abbrev pub Shuts : {D : Type 0} → QueuedSink D → Result (Unit {0}) MarkError → QueuedSink D → Type 0
 Shuts old (Ok done) new =
-    (new.waiting ≡ record old.waiting { queue = after_mark old.waiting.queue }) × (old.waiting.queue.sent ≡ false)
+    (new.waiting ≡ record old.waiting { queue = after_mark old.waiting.queue }) × (old.waiting.queue.sent ≡ false) ×
+    (length old.waiting.queue.queued < old.waiting.queue.limit)
 Shuts old (Err mark.MarkSent) new = (new.waiting ≡ old.waiting) × (old.waiting.queue.sent ≡ true)
 Shuts old (Err mark.NoRoom) new = (new.waiting ≡ old.waiting) × (old.waiting.queue.sent ≡ false) ×
     (old.waiting.queue.limit ≤ length old.waiting.queue.queued)
@@ -62,14 +65,20 @@ shutdown_reply (Ok done) = Done
 shutdown_reply (Err mark.MarkSent) = Refused MarkSent
 shutdown_reply (Err mark.NoRoom) = Refused NoRoom
 
-module _ {D : Type 0} (contents : D → Option Contents) (failed : D → ℕ) where
+module _ {D Q : Type 0} (contents : D → Option Contents) (failed : D → ℕ) (settles : Q → List ℕ → Fate → Q → Type 0) where
   -- a line is written as it comes, or comes to the queue
-  abbrev pub TakesAny : AnySink D → At → PlainLine → AnySink D → Type 0
+  abbrev pub TakesAny : AnySink D Q → At → PlainLine → AnySink D Q → Type 0
   TakesAny (Direct old) at line (Direct new) = TakesLine contents failed old at line new
   TakesAny (Direct old) at line (Queued new) = ⊥
-  TakesAny (Queued old) at line (Queued new) = TakesQueued old line.bytes new
+  TakesAny (Direct old) at line (Live new) = ⊥
   TakesAny (Queued old) at line (Direct new) = ⊥
+  TakesAny (Queued old) at line (Queued new) = TakesQueued old line.bytes new
+  TakesAny (Queued old) at line (Live new) = ⊥
+  TakesAny (Live old) at line (Direct new) = ⊥
+  TakesAny (Live old) at line (Queued new) = ⊥
+  TakesAny (Live old) at line (Live new) = TakesLive settles old line.bytes new
 
+module _ {D : Type 0} (contents : D → Option Contents) (failed : D → ℕ) where
   -- A step of a worker took so many lines. These are the first of the queue; the files were handed them at the moment, in order.
   pub record WorksQueued (lines : ℕ) (m : Moment) (old : QueuedSink D) (batched : Batched) (new : QueuedSink D) : Type 0 where
     pub waiting : new.waiting ≡ worked lines batched.missed old.waiting
@@ -96,41 +105,59 @@ module _ {D : Type 0} (contents : D → Option Contents) (failed : D → ℕ) wh
   CallsQueue Shutdown old reply new = (result : Result (Unit {0}) MarkError) × Shuts old result new ×
       (new.appender ≡ old.appender) × (reply ≡ shutdown_reply result)
 
-  -- a direct sink refuses each call
-  abbrev pub CallsAny : AnySink D → QueueCall → Reply → AnySink D → Type 0
+  -- a direct sink refuses each call, and so does a live one
+  abbrev pub CallsAny : {Q : Type 0} → AnySink D Q → QueueCall → Reply → AnySink D Q → Type 0
   CallsAny (Direct old) call reply new = (reply ≡ Refused NotQueued) × (new ≡ Direct old)
-  CallsAny (Queued old) call reply (Queued new) = CallsQueue call old reply new
   CallsAny (Queued old) call reply (Direct new) = ⊥
+  CallsAny (Queued old) call reply (Queued new) = CallsQueue call old reply new
+  CallsAny (Queued old) call reply (Live new) = ⊥
+  CallsAny (Live old) call reply new = (reply ≡ Refused NotQueued) × (new ≡ Live old)
 
 -- whether a line is held beside its queue
-abbrev pub holds_line : {D : Type 0} → AnySink D → Bool
+abbrev pub holds_line : {D Q : Type 0} → AnySink D Q → Bool
 holds_line (Direct sink) = false
+holds_line (Live sink) = false
 holds_line (Queued sink) = is_some_line sink.waiting.held
 
 -- how many lines found no memory at a sink
-abbrev pub missed_by : {D : Type 0} → AnySink D → ℕ
+abbrev pub missed_by : {D Q : Type 0} → AnySink D Q → ℕ
+missed_by (Live sink) = sink.missed
 missed_by (Direct sink) = sink.dropped
 missed_by (Queued sink) = sink.waiting.missed
 
 -- how many lines are held beside a sink's queue, where it has one
-abbrev pub held_by : {D : Type 0} → AnySink D → Option ℕ
+abbrev pub held_by : {D Q : Type 0} → AnySink D Q → Option ℕ
 held_by (Direct sink) = None
+held_by (Live sink) = None
 held_by (Queued sink) = Some (length sink.waiting.held)
 
--- how many lines its queue dropped
-abbrev pub dropped_by_queue : {D : Type 0} → AnySink D → Option ℕ
+-- how many lines its queue dropped, where it is one of a replay
+abbrev pub dropped_by_queue : {D Q : Type 0} → AnySink D Q → Option ℕ
 dropped_by_queue (Direct sink) = None
+dropped_by_queue (Live sink) = None
 dropped_by_queue (Queued sink) = Some sink.waiting.queue.dropped
 
+-- so many lines were lost, and there is no folder whose faults could be told
+abbrev pub lost_lines : ℕ → Faults
+lost_lines lost = record { switches = 0; retentions = 0; writes = lost; last = None }
+
 -- what was lost to the folder's faults, and to a closed waiting queue
-abbrev pub faults_of : {D : Type 0} → AnySink D → Faults
+abbrev pub faults_of : {D Q : Type 0} → AnySink D Q → Faults
+faults_of (Live sink) = lost_lines sink.lost
 faults_of (Direct sink) = sink.appender.faults
 faults_of (Queued sink) = with_lost sink.waiting.lost sink.appender.faults
 
--- the rolling file of a sink
-abbrev pub appender_of : {D : Type 0} → AnySink D → RollingFileAppender D
-appender_of (Direct sink) = sink.appender
-appender_of (Queued sink) = sink.appender
+-- the rolling file of a sink, where it has one of its own
+abbrev pub appender_of : {D Q : Type 0} → AnySink D Q → Option (RollingFileAppender D)
+appender_of (Direct sink) = Some sink.appender
+appender_of (Queued sink) = Some sink.appender
+appender_of (Live sink) = None
+
+-- the queue of a live sink
+abbrev pub live_of : {D Q : Type 0} → AnySink D Q → Option Q
+live_of (Direct sink) = None
+live_of (Queued sink) = None
+live_of (Live sink) = Some sink.queue
 
 abbrev pub bytes_in : List (At × PlainLine) → List (List ℕ)
 bytes_in lines = map (λ (x : At × PlainLine). x.1.bytes) lines
@@ -141,12 +168,15 @@ pub record SettlesRun {D : Type 0} (lines : List (At × PlainLine)) (old new : Q
   pub settled : SettlesAll old.waiting (bytes_in lines) fates new.waiting
   pub files : new.appender ≡ old.appender
 
-module _ {D : Type 0} (contents : D → Option Contents) (failed : D → ℕ) where
+module _ {D Q : Type 0} (contents : D → Option Contents) (failed : D → ℕ) (settles : Q → List ℕ → Fate → Q → Type 0) where
   -- what a run of lines leaves of a sink of each kind
   pub record KindsStay : Type 0 where
-    pub direct : (lines : List (At × PlainLine)) (old : RollingSink D) (new : AnySink D) →
-        TakesRun (TakesAny contents failed) lines (Direct old) new →
+    pub direct : (lines : List (At × PlainLine)) (old : RollingSink D) (new : AnySink D Q) →
+        TakesRun (TakesAny contents failed settles) lines (Direct old) new →
         (made : RollingSink D) × (new ≡ Direct made) × TakesRun (TakesLine contents failed) lines old made
-    pub queued : (lines : List (At × PlainLine)) (old : QueuedSink D) (new : AnySink D) →
-        TakesRun (TakesAny contents failed) lines (Queued old) new →
+    pub queued : (lines : List (At × PlainLine)) (old : QueuedSink D) (new : AnySink D Q) →
+        TakesRun (TakesAny contents failed settles) lines (Queued old) new →
         (made : QueuedSink D) × (new ≡ Queued made) × SettlesRun lines old made
+    pub live : (lines : List (At × PlainLine)) (old : LiveSink Q) (new : AnySink D Q) →
+        TakesRun (TakesAny contents failed settles) lines (Live old) new →
+        (made : LiveSink Q) × (new ≡ Live made) × TakesLives settles (bytes_in lines) old made

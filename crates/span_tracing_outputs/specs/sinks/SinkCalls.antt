@@ -1,5 +1,5 @@
 -- Calls on the queues of a stack's sinks, which are numbered through its outputs.
-use Rattle.std.specs.Prelude.{◌≡◌, ◌+◌, ◌-◌, ◌||◌, Bool, false, ℕ, suc, min, nat_lt, if◌then◌else◌, List, [], ◌∷◌, length, Option, Some}
+use Rattle.std.specs.Prelude.{◌≡◌, ◌+◌, ◌-◌, Bool, ℕ, suc, min, nat_lt, if◌then◌else◌, List, [], ◌∷◌, length, Option, Some}
 use Rattle.std.specs.Prelude.{None, slice_get, slice_set}
 use Rattle.tracing_appender_rolling.specs.folders.Contents.{Contents}
 use Rattle.span_tracing_skeleton.specs.declared.call.Reply.{Reply}
@@ -8,6 +8,7 @@ use Rattle.span_tracing_skeleton.specs.declared.queue_call.QueueCall.{QueueCall}
 use Rattle.span_tracing_skeleton.specs.declared.refusal.Refusal.TheVariants.{UnknownSink}
 use Rattle.span_tracing_outputs.specs.TraceStacks.{TraceStackValue}
 use Rattle.span_tracing_outputs.specs.sinks.AnySinks.{CallsAny, holds_line}
+use Rattle.span_tracing_outputs.specs.SinkLines.{some_hold}
 use Rattle.span_tracing_outputs.specs.sinks.Routed.{Routed}
 use Rattle.span_tracing_outputs.specs.declared.has_sinks.SinkPlace.{SinkPlace}
 use Rattle.span_tracing_outputs.specs.declared.sinks.any_sink.AnySink.{AnySink}
@@ -40,15 +41,10 @@ abbrev pub sink_in : {S : Type 0} → List (Routed S) → ℕ → Option S
 sink_in outputs number = sink_there outputs (sink_place outputs 0 number)
 
 -- whether a line is held beside the queue of a sink
-abbrev pub some_hold : {D : Type 0} → List (AnySink D) → Bool
-some_hold [] = false
-some_hold (s ∷ ss) = holds_line s || some_hold ss
+abbrev pub outputs_hold : {D Q : Type 0} → List (Routed (AnySink D Q)) → Bool
+outputs_hold outputs = some_hold (λ o. some_hold (λ s. holds_line s) o.sinks) outputs
 
-abbrev pub outputs_hold : {D : Type 0} → List (Routed (AnySink D)) → Bool
-outputs_hold [] = false
-outputs_hold (o ∷ os) = some_hold o.sinks || outputs_hold os
-
-abbrev pub stack_holds : {N E F D : Type 0} → TraceStackValue N E F (Routed (AnySink D)) → Bool
+abbrev pub stack_holds : {N E F D Q : Type 0} → TraceStackValue N E F (Routed (AnySink D Q)) → Bool
 stack_holds x = outputs_hold x.sinks
 
 -- the value at a place is called, and the others stay; where there is none, that is told
@@ -59,21 +55,21 @@ ReachesIf {A} becomes place (Some x) xs reply after = (y : A) × becomes x reply
 abbrev pub Reaches : {A : Type 0} → (A → Reply → A → Type 0) → ℕ → List A → Reply → List A → Type 0
 Reaches becomes place xs reply after = ReachesIf becomes place (slice_get xs place) xs reply after
 
-module _ {D : Type 0} (contents : D → Option Contents) (failed : D → ℕ) where
+module _ {D Q : Type 0} (contents : D → Option Contents) (failed : D → ℕ) where
   -- a sink of an output is called
-  abbrev pub CallsRouted : ℕ → QueueCall → Routed (AnySink D) → Reply → Routed (AnySink D) → Type 0
+  abbrev pub CallsRouted : ℕ → QueueCall → Routed (AnySink D Q) → Reply → Routed (AnySink D Q) → Type 0
   CallsRouted sink call old reply new =
       (new.route ≡ old.route) × Reaches (λ s r t. CallsAny contents failed s call r t) sink old.sinks reply new.sinks
 
-  abbrev pub CallsAt : Option SinkPlace → QueueCall → List (Routed (AnySink D)) → Reply → List (Routed (AnySink D)) → Type 0
+  abbrev pub CallsAt : Option SinkPlace → QueueCall → List (Routed (AnySink D Q)) → Reply → List (Routed (AnySink D Q)) → Type 0
   CallsAt None call olds reply news = (reply ≡ Refused UnknownSink) × (news ≡ olds)
   CallsAt (Some at) call olds reply news = Reaches (λ o r p. CallsRouted at.sink call o r p) at.output olds reply news
 
   -- so of the sink with a number
-  abbrev pub CallsIn : ℕ → QueueCall → List (Routed (AnySink D)) → Reply → List (Routed (AnySink D)) → Type 0
+  abbrev pub CallsIn : ℕ → QueueCall → List (Routed (AnySink D Q)) → Reply → List (Routed (AnySink D Q)) → Type 0
   CallsIn number call olds reply news = CallsAt (sink_place olds 0 number) call olds reply news
 
   -- the outputs themselves stay
-  abbrev pub CallsStack : {N E F : Type 0} → TraceStackValue N E F (Routed (AnySink D)) → ℕ → QueueCall → Reply →
-      TraceStackValue N E F (Routed (AnySink D)) → Type 0
+  abbrev pub CallsStack : {N E F : Type 0} → TraceStackValue N E F (Routed (AnySink D Q)) → ℕ → QueueCall → Reply →
+      TraceStackValue N E F (Routed (AnySink D Q)) → Type 0
   CallsStack x number call reply y = (y.stack ≡ x.stack) × CallsIn number call x.sinks reply y.sinks

@@ -14,7 +14,7 @@ use crate::files::lane_thread::LaneThread;
 use crate::files::line_settings::Lines;
 use crate::files::open_error::OpenStackError;
 use crate::files::output_spec::{OutputSpec, SinkSpec};
-use crate::sinks::{AnySink, RollingSink, RoutedSinks};
+use crate::sinks::{AnySink, LiveSink, RollingSink, RoutedSinks};
 use crate::{PendingLines, TraceStack, trace_starts};
 use event_formatter::{Fields, Format, FormatEvent, Layer, LineFormat, Timer};
 use event_formatter_text::{FormatFields, Route};
@@ -23,16 +23,18 @@ use span_registry_layers_layers::{Filter, Filtered};
 use span_registry_layers_store::OutputKey;
 use span_tracing_skeleton::Refusal;
 use std::alloc::{AllocError, Global};
+use tracing_appender::{LiveQueue, NoLive};
 use tracing_appender_queue::{QueuedSink, Waiting};
 use tracing_appender_rolling::{Builder, Folder, RollingFileAppender};
 use tracing_core_moments::Moment;
 
-/// A stack whose outputs have lines of any format, under filters `F`, and whose lines go to rolling files in folders `D`.
-pub type FileStack<F, D> = TraceStack<
+/// A stack whose outputs have lines of any format, under filters `F`, and whose lines go to rolling files in folders `D`, or to live
+/// queues `Q`.
+pub type FileStack<F, D, Q = NoLive> = TraceStack<
     Fields,
     Format<LineFormat, Timer>,
     F,
-    RoutedSinks<AnySink<D>>,
+    RoutedSinks<AnySink<D, Q>>,
 >;
 
 /// What an output needs besides its files.
@@ -40,10 +42,10 @@ type LinesOutput<F> = Output<Filtered<Lines, F>>;
 
 /// The sinks of an output, before their files are opened.
 #[derive(Drop)]
-pub(crate) struct Routing<D> {
+pub(crate) struct Routing<D, Q> {
     key: OutputKey,
     route: Route,
-    sinks: Vec<SinkSpec<D>>,
+    sinks: Vec<SinkSpec<D, Q>>,
 }
 
 fn stack_refusal(error: StackError) -> Refusal
@@ -71,7 +73,7 @@ fn name_refusal(builder: &Builder) -> Option<Refusal>
 }
 
 /// Why a sink can't be, before its folder is asked.
-fn sink_refusal<D>(sink: &SinkSpec<D>) -> Option<Refusal>
+fn sink_refusal<D, Q>(sink: &SinkSpec<D, Q>) -> Option<Refusal>
     ensures { SinkTells sink.now result }
 {
     match sink {
@@ -82,11 +84,12 @@ fn sink_refusal<D>(sink: &SinkSpec<D>) -> Option<Refusal>
             }
             name_refusal(builder)
         }
+        SinkSpec::Live(_) => None,
     }
 }
 
 /// The first of the sinks' refusals.
-fn first_refusal<D>(sinks: &[SinkSpec<D>]) -> Option<Refusal>
+fn first_refusal<D, Q>(sinks: &[SinkSpec<D, Q>]) -> Option<Refusal>
     ensures { SinksTell sinks.now result }
 {
     let mut rest = sinks;
@@ -100,7 +103,7 @@ fn first_refusal<D>(sinks: &[SinkSpec<D>]) -> Option<Refusal>
 }
 
 /// The first refusal of a name, outputs and sinks in order, with the output's key.
-fn names_refusal<F, D>(outputs: &[OutputSpec<F, D>]) -> Option<(OutputKey, Refusal)>
+fn names_refusal<F, D, Q>(outputs: &[OutputSpec<F, D, Q>]) -> Option<(OutputKey, Refusal)>
     ensures { OutputsTell outputs.now result }
 {
     let mut rest = outputs;
@@ -113,11 +116,11 @@ fn names_refusal<F, D>(outputs: &[OutputSpec<F, D>]) -> Option<(OutputKey, Refus
     None
 }
 
-fn row_of<F: Drop, D: Drop>(
+fn row_of<F: Drop, D: Drop, Q: Drop>(
     alloc: Global,
     threads: &[LaneThread<'_>],
-    spec: OutputSpec<F, D>,
-) -> Result<(LinesOutput<F>, Routing<D>), AllocError>
+    spec: OutputSpec<F, D, Q>,
+) -> Result<(LinesOutput<F>, Routing<D, Q>), AllocError>
     ensures row { IfOk result (λ made. RowOf (map lane_of threads.now) spec made.0) }
     ensures routing { IfOk result (λ made. made.1 ≡ routing_of spec) }
 {
@@ -134,11 +137,11 @@ fn row_of<F: Drop, D: Drop>(
 
 /// The outputs without their files, and their sinks.
 #[tactic(auto, using(crate::proofs::files::PairedLists::pairs_more))]
-fn split<F: Drop, D: Drop>(
+fn split<F: Drop, D: Drop, Q: Drop>(
     alloc: Global,
     threads: &[LaneThread<'_>],
-    outputs: Vec<OutputSpec<F, D>>,
-) -> Result<(Vec<LinesOutput<F>>, Vec<Routing<D>>), AllocError>
+    outputs: Vec<OutputSpec<F, D, Q>>,
+) -> Result<(Vec<LinesOutput<F>>, Vec<Routing<D, Q>>), AllocError>
     ensures rows { IfOk result (λ made. Pairs (RowOf (map lane_of threads.now)) outputs.items made.0.items) }
     ensures routings { IfOk result (λ made. made.1.items ≡ map routing_of outputs.items) }
 {
@@ -171,12 +174,12 @@ fn open_files<D: Folder>(
     }
 }
 
-fn open_sink<D: Folder>(
+fn open_sink<D: Folder, Q: LiveQueue>(
     alloc: Global,
     key: OutputKey,
-    spec: SinkSpec<D>,
+    spec: SinkSpec<D, Q>,
     moment: Moment,
-) -> Result<AnySink<D>, OpenStackError>
+) -> Result<AnySink<D, Q>, OpenStackError>
     requires { is_moment moment ≡ true }
     ensures opened { IfOk result (λ sink. OpensSink D.contents D.failed moment spec sink) }
     ensures refused { IfErr result (λ told. SinkRefuses D.failed key told spec) }
@@ -193,16 +196,17 @@ fn open_sink<D: Folder>(
             let appender = open_files(alloc, key, builder, folder, moment)?;
             Ok(AnySink::Queued(QueuedSink::new(waiting, appender)))
         }
+        SinkSpec::Live(queue) => Ok(AnySink::Live(LiveSink::new(queue))),
     }
 }
 
 /// The sinks of an output, opened in order.
-fn open_sinks<D: Folder>(
+fn open_sinks<D: Folder, Q: LiveQueue>(
     alloc: Global,
     key: OutputKey,
-    specs: Vec<SinkSpec<D>>,
+    specs: Vec<SinkSpec<D, Q>>,
     moment: Moment,
-) -> Result<Vec<AnySink<D>>, OpenStackError>
+) -> Result<Vec<AnySink<D, Q>>, OpenStackError>
     requires { is_moment moment ≡ true }
     ensures opened { IfOk result (λ sinks. Pairs (OpensSink D.contents D.failed moment) specs.items sinks.items) }
     ensures refused { IfErr result (λ told. InOne (SinkRefuses D.failed key told) specs.items) }
@@ -218,11 +222,11 @@ fn open_sinks<D: Folder>(
 }
 
 #[tactic(auto, using(crate::proofs::files::RequestedOutputs::routed_is))]
-fn open_routing<D: Folder>(
+fn open_routing<D: Folder, Q: LiveQueue>(
     alloc: Global,
-    routing: Routing<D>,
+    routing: Routing<D, Q>,
     moment: Moment,
-) -> Result<RoutedSinks<AnySink<D>>, OpenStackError>
+) -> Result<RoutedSinks<AnySink<D, Q>>, OpenStackError>
     requires { is_moment moment ≡ true }
     ensures opened { IfOk result (λ routed. OpensRouting D.contents D.failed moment routing routed) }
     ensures refused { IfErr result (λ told. RoutingRefuses D.failed told routing) }
@@ -236,11 +240,11 @@ fn open_routing<D: Folder>(
 }
 
 /// The sinks of all outputs, opened in order.
-fn open_routings<D: Folder>(
+fn open_routings<D: Folder, Q: LiveQueue>(
     alloc: Global,
-    routings: Vec<Routing<D>>,
+    routings: Vec<Routing<D, Q>>,
     moment: Moment,
-) -> Result<Vec<RoutedSinks<AnySink<D>>>, OpenStackError>
+) -> Result<Vec<RoutedSinks<AnySink<D, Q>>>, OpenStackError>
     requires { is_moment moment ≡ true }
     ensures opened { IfOk result (λ opened. Pairs (OpensRouting D.contents D.failed moment) routings.items opened.items) }
     ensures refused { IfErr result (λ told. InOne (RoutingRefuses D.failed told) routings.items) }
@@ -270,11 +274,11 @@ fn rows_are_told<N: FormatFields + Drop, E: FormatEvent, F: Filter>()
 /// `ZeroLimit`, `BadName`, `BadLinkName`, all before a folder is asked; then `FolderRefused` or `OutOfMemory` at the first sink that meets
 /// it. Out of memory may be told in place of any but `BadMoment`. What is told of one output comes with its key, and a folder's refusal
 /// with the fault. The outputs are let go: the folders of earlier sinks keep what was opened in them.
-pub fn open_stack<F: Filter, D: Folder>(
+pub fn open_stack<F: Filter, D: Folder, Q: LiveQueue>(
     alloc: Global,
-    outputs: Vec<OutputSpec<F, D>>,
+    outputs: Vec<OutputSpec<F, D, Q>>,
     moment: Moment,
-) -> Result<FileStack<F, D>, OpenStackError>
+) -> Result<FileStack<F, D, Q>, OpenStackError>
     // A moment out of range is refused, with no key and no fault, whatever else is wrong.
     ensures moment { is_moment moment ≡ false → result ≡ Err (of_all Refusal.BadMoment) }
     // At a moment in range, no output, more than 64 outputs, or two with one key are refused, with no key and no fault; out of memory
@@ -288,7 +292,7 @@ pub fn open_stack<F: Filter, D: Folder>(
     ensures opened { IfOk result (λ made. OpensStack D.contents D.failed ⟦<F as Filter>⟧
         ⟦<Lines as span_registry_layers_layers::Layer>⟧ moment [] outputs.items made) }
     // With honest filters the stack is ready.
-    ensures ready { Every (λ (spec : OutputSpec F D). F.honest spec.filter) outputs.items →
+    ensures ready { Every (λ (spec : OutputSpec F D Q). F.honest spec.filter) outputs.items →
         IfOk result (λ made. IsReady ⟦<F as Filter>⟧ made) }
 {
     open_stack_with_threads(alloc, &[], outputs, moment)
@@ -301,12 +305,12 @@ pub fn open_stack<F: Filter, D: Folder>(
 /// # Errors
 ///
 /// Those of [`open_stack`].
-pub fn open_stack_with_threads<F: Filter, D: Folder>(
+pub fn open_stack_with_threads<F: Filter, D: Folder, Q: LiveQueue>(
     alloc: Global,
     threads: &[LaneThread<'_>],
-    outputs: Vec<OutputSpec<F, D>>,
+    outputs: Vec<OutputSpec<F, D, Q>>,
     moment: Moment,
-) -> Result<FileStack<F, D>, OpenStackError>
+) -> Result<FileStack<F, D, Q>, OpenStackError>
     ensures moment { is_moment moment ≡ false → result ≡ Err (of_all Refusal.BadMoment) }
     ensures told { is_moment moment ≡ true → Answers (outputs_refusal outputs.items) result }
     // Where each output's route is good, as `OutputSpec::new` makes it, the queues of a stack that is made have room and its files good
@@ -317,13 +321,13 @@ pub fn open_stack_with_threads<F: Filter, D: Folder>(
     ensures opened { IfOk result (λ made. OpensStack D.contents D.failed ⟦<F as Filter>⟧
         ⟦<Lines as span_registry_layers_layers::Layer>⟧ moment (map lane_of threads.now) outputs.items made) }
     // With honest filters the stack is ready.
-    ensures ready { Every (λ (spec : OutputSpec F D). F.honest spec.filter) outputs.items →
+    ensures ready { Every (λ (spec : OutputSpec F D Q). F.honest spec.filter) outputs.items →
         IfOk result (λ made. IsReady ⟦<F as Filter>⟧ made) }
 {
     if !moment.is_in_range() {
         return Err(OpenStackError::of_all(Refusal::BadMoment));
     }
-    trace_starts::<Fields, Format<LineFormat, Timer>, F, RoutedSinks<AnySink<D>>>();
+    trace_starts::<Fields, Format<LineFormat, Timer>, F, RoutedSinks<AnySink<D, Q>>>();
     rows_are_told::<Fields, Format<LineFormat, Timer>, F>();
     let names = names_refusal(outputs.as_slice());
     let Ok((rows, routings)) = split(alloc, threads, outputs) else {

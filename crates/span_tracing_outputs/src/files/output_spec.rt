@@ -9,31 +9,34 @@ use event_formatter_text::Route;
 use span_registry_layers_store::OutputKey;
 use span_tracing_skeleton::Refusal;
 use std::alloc::Global;
+use tracing_appender::NoLive;
 use tracing_appender_rolling::Builder;
 
 /// Where lines go.
 #[derive(Drop)]
-pub enum SinkSpec<D> {
+pub enum SinkSpec<D, Q = NoLive> {
     /// To files of such names in a folder, each line as it comes.
     Direct(Builder, D),
     /// To such files, behind a queue for at most so many lines, from which steps of a worker write them. A line that the queue has no room
     /// for is dropped and counted where the last part is true; else it is held beside the queue.
     Queued(Builder, D, usize, bool),
+    /// To a queue whose lines are written elsewhere, as by a worker's thread behind a `NonBlocking`.
+    Live(Q),
 }
 
 /// What an output is to be: what it lets through, how its lines look, and which of its sinks take a line.
 #[derive(Drop)]
-pub struct OutputSpec<F, D> {
+pub struct OutputSpec<F, D, Q = NoLive> {
     pub(crate) key: OutputKey,
     pub(crate) filter: F,
     pub(crate) lines: LineSettings,
     pub(crate) route: Route,
-    pub(crate) sinks: Vec<SinkSpec<D>>,
+    pub(crate) sinks: Vec<SinkSpec<D, Q>>,
 }
 
 /// An output that can't be, with what was handed in.
 #[derive(Drop)]
-pub struct SpecRefusal<F, D> {
+pub struct SpecRefusal<F, D, Q = NoLive> {
     /// `BadRoute` or `JsonFieldsNeeded`.
     pub error: Refusal,
     /// The filter.
@@ -43,10 +46,10 @@ pub struct SpecRefusal<F, D> {
     /// The route.
     pub route: Route,
     /// The sinks.
-    pub sinks: Vec<SinkSpec<D>>,
+    pub sinks: Vec<SinkSpec<D, Q>>,
 }
 
-impl<F, D> OutputSpec<F, D> {
+impl<F, D, Q> OutputSpec<F, D, Q> {
     /// An output under a filter. Its key names it among the outputs of a stack. The route says by a line's level which sinks take it; each
     /// sink goes by its place.
     ///
@@ -59,8 +62,8 @@ impl<F, D> OutputSpec<F, D> {
         filter: F,
         lines: LineSettings,
         route: Route,
-        sinks: Vec<SinkSpec<D>>,
-    ) -> Result<OutputSpec<F, D>, SpecRefusal<F, D>>
+        sinks: Vec<SinkSpec<D, Q>>,
+    ) -> Result<OutputSpec<F, D, Q>, SpecRefusal<F, D, Q>>
         ensures { SpecGives key filter lines route sinks.items result }
     {
         let error = if route.check(sinks.len()).is_err() {

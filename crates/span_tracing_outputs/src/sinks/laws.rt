@@ -9,6 +9,7 @@ ghost use Rattle.span_tracing_outputs.specs.sinks.SinkTurns.{SinksMeetTheirs};
 ghost use Rattle.span_tracing_outputs.specs.sinks.LinesInFiles.{LinesStandInFiles};
 
 use crate::LineSink;
+use tracing_appender::LiveQueue;
 use tracing_appender_queue::drops_are_exact;
 use tracing_appender_rolling::Folder;
 
@@ -31,17 +32,17 @@ pub fn routed_sinks_take_theirs<S: LineSink>()
 {}
 
 /// A run of lines goes to a direct sink as its rolling file takes them, and to a queued one as its queue does: each line is queued,
-/// dropped, held or lost, or finds no memory, and nothing is written.
+/// dropped, held or lost, or finds no memory, and nothing is written. To a live one it goes line by line, as its queue takes lines.
 #[tactic(auto, using(crate::proofs::sinks::SinkKinds::kinds_stay))]
-pub fn kinds_stay<D: Folder>()
-    ensures { KindsStay D.contents D.failed }
+pub fn kinds_stay<D: Folder, Q: LiveQueue>()
+    ensures { KindsStay D.contents D.failed Q.settles }
 {}
 
 /// Each sink of a stack meets just what comes to it, step by step: the lines that its output's route sends there, and the calls on its
 /// queue, whatever comes to the others. A direct sink takes its lines as its rolling file does. Of a queued one each line and each call
-/// does as the queue says.
-pub fn sinks_meet_theirs<D: Folder>()
-    ensures { SinksMeetTheirs D.contents D.failed }
+/// does as the queue says. The queue of a live one is offered its lines, and refuses each call.
+pub fn sinks_meet_theirs<D: Folder, Q: LiveQueue>()
+    ensures { SinksMeetTheirs D.contents D.failed Q.settles }
 {}
 
 /// Which bytes stand in the files of a queued sink after lines and calls on its queue, where no line found no memory and the appender

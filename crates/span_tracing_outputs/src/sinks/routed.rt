@@ -1,15 +1,16 @@
 //! The sinks of an output, and the route by which lines go to them.
 ghost use Rattle.std.specs.Prelude.{◌≡◌, ◌∷◌, [], IfOk};
 ghost use Rattle.span_tracing_outputs.specs.sinks.Routed.{EachFrom, RoutingGives, TakesIf, TakesSent, goes_to};
-ghost use Rattle.span_tracing_outputs.specs.sinks.SinkCalls.{CallsRouted, some_hold};
+ghost use Rattle.span_tracing_outputs.specs.sinks.SinkCalls.{CallsRouted};
 
 use crate::LineSink;
-use crate::sink::copied;
+use crate::sink::{copied, some_hold};
 use crate::sinks::any_sink::AnySink;
 use event_formatter_text::Route;
 use span_tracing_skeleton::{QueueCall, Refusal, Reply};
 use std::alloc::{AllocError, Global};
 use std::marker::Model;
+use tracing_appender::LiveQueue;
 use tracing_appender_rolling::Folder;
 use tracing_core_fields::Level;
 use tracing_core_moments::At;
@@ -175,24 +176,7 @@ impl<S: Drop> RoutedSinks<S> {
     }
 }
 
-// Whether a line is held beside the queue of one of these sinks.
-fn is_holding<D: Folder>(sinks: &[AnySink<D>]) -> bool
-    ensures { result ≡ some_hold sinks.now }
-{
-    match sinks {
-        [] => false,
-        [first, later @ ..] => first.is_holding() || is_holding(later),
-    }
-}
-
-impl<D: Folder> RoutedSinks<AnySink<D>> {
-    /// Whether a line is held beside the queue of a sink.
-    pub fn is_holding(&self) -> bool
-        ensures { result ≡ some_hold self.now.sinks }
-    {
-        is_holding(self.sinks.as_slice())
-    }
-
+impl<D: Folder, Q: LiveQueue> RoutedSinks<AnySink<D, Q>> {
     /// Does this to the queue of the sink with this number among them, as [`AnySink::drive`]. Refused where there is no such sink
     /// (`UnknownSink`).
     pub fn drive(&mut self, number: usize, call: QueueCall) -> Reply
@@ -207,12 +191,19 @@ impl<D: Folder> RoutedSinks<AnySink<D>> {
 }
 
 impl<S: LineSink> LineSink for RoutedSinks<S> {
+    ghost use Rattle.span_tracing_outputs.specs.SinkLines.{some_hold};
     ghost use Rattle.span_tracing_outputs.specs.sinks.Routed.{TakesRouted};
 
     ghost takes = { TakesRouted S.takes };
 
+    ghost holds = { λ o. some_hold S.holds o.sinks };
+
     #[inline(always)]
     fn take(&mut self, at: At, level: Level, line: &[u8]) {
         take_routed(&self.route, self.sinks.as_mut_slice(), at, level, line);
+    }
+
+    fn is_holding(&self) -> bool {
+        some_hold(self.sinks.as_slice())
     }
 }

@@ -99,9 +99,12 @@ impl<D: Folder> RollingSink<D> {
 }
 
 impl<D: Folder> LineSink for RollingSink<D> {
+    ghost use Rattle.std.specs.Prelude.{false};
     ghost use Rattle.span_tracing_outputs.specs.sinks.Takes.{TakesLine};
 
     ghost takes = { TakesLine D.contents D.failed };
+
+    ghost holds = { λ _. false };
 
     fn take(&mut self, at: At, _level: Level, line: &[u8]) {
         let moment = moment_of(at);
@@ -110,5 +113,9 @@ impl<D: Folder> LineSink for RollingSink<D> {
         } else {
             self.count_dropped();
         }
+    }
+
+    fn is_holding(&self) -> bool {
+        false
     }
 }

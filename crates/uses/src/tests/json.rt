@@ -61,7 +61,7 @@ fn has_text(rt: &impl Abort, line: &Value, path: &[&str], text: &str) -> Result<
 /// The lines of the one file, each read by itself.
 fn lines_of(alloc: Global, trace: &JsonTrace) -> Result<Vec<Value>, Fail> {
     let sink = trace.sink(0).ok_or("a sink")?;
-    let files = sink.appender().folder().files()?;
+    let files = sink.appender().ok_or("a folder")?.folder().files()?;
     let file = files.first().ok_or("a file")?;
     let text = str::from_utf8(file.bytes).ok().ok_or("UTF-8")?;
     let mut lines = Vec::new(alloc);

@@ -62,7 +62,7 @@ fn requests_log_inside_their_spans(rt: HostRuntime) -> Result<(), Fail> {
     assert_eq!(rt; service.serve(alloc, 8), Ok(4));
     assert_eq!(rt; service.serve(alloc, 7), Err(ServiceError::NotFound));
     let sink = service.trace.sink(0).ok_or("a sink")?;
-    let files = sink.appender().folder().files()?;
+    let files = sink.appender().ok_or("a folder")?.folder().files()?;
     let file = files.first().ok_or("a file")?;
     let text = str::from_utf8(file.bytes).ok().ok_or("UTF-8")?;
     assert_eq!(rt; text, LINES);

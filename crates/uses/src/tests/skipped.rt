@@ -54,7 +54,7 @@ fn bytes_are_literals(rt: HostRuntime) -> Result<(), Fail> {
         Ok(())
     );
     let sink = trace.sink(0).ok_or("a sink")?;
-    let files = sink.appender().folder().files()?;
+    let files = sink.appender().ok_or("a folder")?.folder().files()?;
     let file = files.first().ok_or("a file")?;
     assert!(rt; file.bytes == b" INFO app: body=[01 ff]\n".as_slice());
     Ok(())

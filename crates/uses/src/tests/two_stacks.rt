@@ -36,7 +36,7 @@ fn a_lane_logs_apart(rt: HostRuntime) -> Result<(), Fail> {
         (1, " INFO app: at work\n"),
     ] {
         let sink = trace.sink(stack).ok_or("a sink")?;
-        let files = sink.appender().folder().files()?;
+        let files = sink.appender().ok_or("a folder")?.folder().files()?;
         let file = files.first().ok_or("a file")?;
         assert_eq!(rt; file.bytes, lines.as_bytes());
     }

@@ -2,7 +2,6 @@ use Rattle.std.proofs.Common.{ap, ◌∙◌}
 use Rattle.tracing_core_moments.specs.declared.period.PeriodKind.TheVariants.{Day}
 use Rattle.tracing_appender_rolling.specs.Builders.{with_prefix}
 use Rattle.tracing_appender_rolling.specs.Names.{FileNames}
-use Rattle.span_tracing.specs.DailyOutputs.{DailyGives}
 use Rattle.span_tracing.proofs.daily.daily_output.Goals as goal
 
 pub returns : goal.returns

@@ -137,6 +137,7 @@ fn asked_in(
     let sink = trace.sink(0).ok_or("a sink")?;
     assert!(rt;
         sink.appender()
+            .ok_or("a folder")?
             .folder()
             .files()?
             .iter()
@@ -267,9 +268,9 @@ fn has_same_files(
     for stack in 0..3 {
         for output in 0..2 {
             let sink = one.sink(2 * stack + output).ok_or("a sink")?;
-            let files = sink.appender().folder().files()?;
+            let files = sink.appender().ok_or("a folder")?.folder().files()?;
             let sink = other.sink(2 * stack + output).ok_or("a sink")?;
-            let others = sink.appender().folder().files()?;
+            let others = sink.appender().ok_or("a folder")?.folder().files()?;
             assert_eq!(rt; files.len(), others.len());
             for (file, same) in files.iter().zip(others.iter()) {
                 assert_eq!(rt; file.name, same.name);

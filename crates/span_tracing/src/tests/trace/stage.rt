@@ -136,7 +136,7 @@ pub(crate) fn has_file_of(
 ) -> Result<(), Fail> {
     let sink = trace.sink(2 * stack + output).ok_or("a sink")?;
     assert_eq!(rt; sink.missed(), 0);
-    for entry in &sink.appender().folder().files()? {
+    for entry in &sink.appender().ok_or("a folder")?.folder().files()? {
         if entry.name == name {
             let shown = str::from_utf8(entry.bytes).ok().unwrap_or("not UTF-8");
             assert_eq!(rt; shown, text, "in {name}");

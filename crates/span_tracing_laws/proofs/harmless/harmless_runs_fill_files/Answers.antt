@@ -3,5 +3,5 @@ use Rattle.span_tracing_laws.proofs.harmless.harmless_runs_fill_files.Goals as g
 
 pub returns : goal.returns
 returns g c =
-    runs_fill g.D.Folder.contents g.D.Folder.failed g.N.FormatFields g.E.FormatEvent.line_of g.F.Filter
+    runs_fill _ g.D.Folder.contents g.D.Folder.failed g.N.FormatFields g.E.FormatEvent.line_of g.F.Filter
     c.files_stay_harmless.ensures.files c.files_stay_harmless.ensures.texts

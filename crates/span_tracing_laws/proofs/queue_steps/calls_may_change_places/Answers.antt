@@ -6,4 +6,4 @@ use Rattle.span_tracing_laws.proofs.queue_steps.calls_may_change_places.Goals as
 
 pub returns : goal.returns
 returns g c =
-    traces_turn (drives (CallsIn g.D.Folder.contents g.D.Folder.failed)) (stacks_turn g.D.Folder.contents g.D.Folder.failed)
+    traces_turn (drives (CallsIn g.D.Folder.contents g.D.Folder.failed)) (stacks_turn _ g.D.Folder.contents g.D.Folder.failed)

@@ -5,5 +5,5 @@ use Rattle.span_tracing_outputs.proofs.has_outputs.TraceStackHasOutputs.set.Goal
 
 pub invariant_of-self : goal.invariant_of-self
 invariant_of-self g c =
-    subst (λ s. IsAtRest s c.self.inside.sinks.items) (sym c.set_output.ensures)
-    (at_rest_stays c.self.inside.stack c.self.inside.sinks.items c.args.place c.args.setting c.self.invariant)
+    subst (λ s. IsAtRest s c.self.inside.sinks) (sym c.set_output.ensures)
+    (at_rest_stays c.self.inside.stack c.self.inside.sinks c.args.place c.args.setting c.self.invariant)

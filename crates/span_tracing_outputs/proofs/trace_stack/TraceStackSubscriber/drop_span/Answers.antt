@@ -17,8 +17,8 @@ hand_over-requires g c =
 
 pub invariant_of-self : goal.invariant_of-self
 invariant_of-self g c =
-    hands_paired g.S.LineSink.takes c.args.at c.drop_span.new.self c.self.inside.sinks.items c.hand_over.new.stack
-    c.hand_over.new.sinks.items c.hand_over.ensures
+    hands_paired g.S.LineSink.takes c.args.at c.drop_span.new.self c.self.inside.sinks c.hand_over.new.stack
+    c.hand_over.new.sinks c.hand_over.ensures
     (c.self.invariant.0 ∙ sym (moves_length g.F.Filter (ghosts g.row.N g.row.E pending_row g.N.FormatFields no_dict g.E.FormatEvent no_dict
     writer_ghosts no_dict no_dict no_dict no_dict) c.self.inside.stack (Dropped c.args.span c.args.at) c.drop_span.result
     c.drop_span.new.self c.drop_span.ensures))
@@ -30,5 +30,5 @@ returns g c = (
       no_dict writer_ghosts no_dict no_dict no_dict no_dict) x.stack (Dropped c.args.span c.args.at) c.drop_span.result
       c.drop_span.new.self) c.self.view_is c.drop_span.ensures,
   subst (λ (x : TraceStackValue _ _ _ _). HandsOver g.S.LineSink.takes c.args.at c.drop_span.new.self x.sinks c.hand_over.new.stack
-      c.hand_over.new.sinks.items) c.self.view_is c.hand_over.ensures,
+      c.hand_over.new.sinks) c.self.view_is c.hand_over.ensures,
 )

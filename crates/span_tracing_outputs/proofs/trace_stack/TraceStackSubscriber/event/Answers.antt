@@ -18,8 +18,8 @@ hand_over-requires g c =
 
 pub invariant_of-self : goal.invariant_of-self
 invariant_of-self g c =
-    hands_paired g.S.LineSink.takes c.args.at c.event-told.new.self c.self.inside.sinks.items c.hand_over.new.stack
-    c.hand_over.new.sinks.items c.hand_over.ensures
+    hands_paired g.S.LineSink.takes c.args.at c.event-told.new.self c.self.inside.sinks c.hand_over.new.stack
+    c.hand_over.new.sinks c.hand_over.ensures
     (c.self.invariant.0 ∙ sym (moves_length g.F.Filter (ghosts g.row.N g.row.E pending_row g.N.FormatFields no_dict g.E.FormatEvent no_dict
     writer_ghosts no_dict no_dict no_dict no_dict) c.self.inside.stack (EventDispatched (plain_event c.args.event.now) c.args.at)
     c.event-told.result c.event-told.new.self c.event-told.ensures))
@@ -31,5 +31,5 @@ returns g c = (
       no_dict writer_ghosts no_dict no_dict no_dict no_dict) x.stack (EventDispatched (plain_event c.args.event.now) c.args.at)
       c.event-told.result c.event-told.new.self) c.self.view_is c.event-told.ensures,
   subst (λ (x : TraceStackValue _ _ _ _). HandsOver g.S.LineSink.takes c.args.at c.event-told.new.self x.sinks c.hand_over.new.stack
-      c.hand_over.new.sinks.items) c.self.view_is c.hand_over.ensures,
+      c.hand_over.new.sinks) c.self.view_is c.hand_over.ensures,
 )

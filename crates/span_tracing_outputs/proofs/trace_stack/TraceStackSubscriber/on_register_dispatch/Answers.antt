@@ -9,7 +9,7 @@ use Rattle.span_tracing_outputs.proofs.trace_stack.TraceStackSubscriber.on_regis
 
 pub invariant_of-self : goal.invariant_of-self
 invariant_of-self g c =
-    subst (λ (s : LinedStack _ _ _). IsAtRest s c.self.inside.sinks.items)
+    subst (λ (s : LinedStack _ _ _). IsAtRest s c.self.inside.sinks)
     (sym (dispatch_same g.N.FormatFields g.E.FormatEvent.line_of g.F.Filter
     (ghosts g.row.N g.row.E pending_row g.N.FormatFields no_dict g.E.FormatEvent no_dict writer_ghosts no_dict no_dict no_dict no_dict)
     (λ layer t later told. told) c.args.dispatch.now c.self.inside.stack c.on_register_dispatch.new.self c.on_register_dispatch.ensures))

@@ -1,0 +1,12 @@
+pub mod OutputNumbers
+pub mod Folds
+pub mod Appenders
+pub mod QueueTurns
+pub mod Queues
+pub mod QueueAnswers
+pub mod MetSinks
+pub mod OwnViews
+pub mod OwnSteps
+pub mod OwnRuns
+pub mod IsolatedRuns
+pub mod FaultyFolders

@@ -1,0 +1,171 @@
+-- An output in two runs.
+use Rattle.std.proofs.Common.{◌≡◌, ◌∙◌, ℕ, List, [], ◌∷◌, ◌++◌, Option, refl, sym, ap, subst}
+use Rattle.std.specs.Option.{option_map}
+use Rattle.std.proofs.lemmas.Option.{slice_get-map}
+use Rattle.tracing_core_fields.specs.requests.PlainRequests.{PlainEvent}
+use Rattle.tracing_core_moments.specs.declared.at.At.{At}
+use Rattle.tracing_appender_queue.specs.declared.queued.fate.Fate.{Fate}
+use Rattle.tracing_appender_rolling.specs.LineHandover.{LinesHaveOneEnd}
+use Rattle.tracing_appender_rolling.specs.folders.Contents.{Contents}
+use Rattle.tracing_appender_queue.specs.declared.queued.queued_sink.QueuedSink.{QueuedSink}
+use Rattle.tracing_appender_queue.specs.queued.ExactCounts.{DropsAreExact}
+use Rattle.tracing_appender_queue.specs.worker.Steps.{StepsHaveOneEnd}
+use Rattle.span_registry_layers_store.specs.Registries.{RegistryValue}
+use Rattle.span_registry_layers_layers.specs.declared.filter.Filter.{Ghosts as FilterGhosts}
+use Rattle.span_registry_layers_layers.specs.declared.layer.Layer.{Ghosts as LayerGhosts}
+use Rattle.event_formatter_text.specs.declared.format_fields.FormatFields.{Ghosts}
+use Rattle.event_formatter_text.specs.declared.makers.route.Route.{Route}
+use Rattle.event_formatter_text.specs.declared.settings.Settings.{Settings}
+use Rattle.event_formatter.specs.formats.Contexts.{PlainContext}
+use Rattle.span_tracing_outputs.specs.OutputFolds.{Numbered}
+use Rattle.span_tracing_outputs.specs.OutputMachines.{PlainLine, PlainOut}
+use Rattle.span_tracing_outputs.specs.Turns.{Lines}
+use Rattle.span_tracing_outputs.specs.declared.sinks.any_sink.AnySink.{AnySink}
+use Rattle.span_tracing_outputs.specs.declared.sinks.any_sink.AnySink.TheVariants.{Direct, Queued}
+use Rattle.span_tracing_outputs.specs.declared.sinks.sink.RollingSink.{RollingSink}
+use Rattle.span_tracing_outputs.specs.sinks.AnySinks.{TakesAny}
+use Rattle.span_tracing_outputs.specs.sinks.Fates.{CountsAreExact, RunsAreTold}
+use Rattle.span_tracing_outputs.specs.sinks.Routed.{Routed, TakesRouted}
+use Rattle.span_tracing_outputs.specs.sinks.Runs.{TakesRun}
+use Rattle.span_tracing_outputs.specs.sinks.SinkCalls.{CallsIn, outputs_hold}
+use Rattle.span_tracing_outputs.specs.sinks.SinkTurns.{Asked, Came, QueueMeetsAll, SinkTurn, SinksMeetTheirs, came_in}
+use Rattle.span_tracing_outputs.specs.sinks.Takes.{TakesLine}
+use Rattle.span_tracing_skeleton.specs.Counting.{IsCounted, StaysCounted}
+use Rattle.span_tracing_steps.specs.States.{stack_in}
+use Rattle.span_tracing_laws.specs.isolation.IsolatedOutputs.{AskedAlike, BeginAlike, DirectOf, EndAlike, FollowsItsOwn}
+use Rattle.span_tracing_laws.specs.isolation.IsolatedOutputs.{Isolated}
+use Rattle.span_tracing_laws.specs.isolation.IsolatedOutputs.{OneRun, QueuedOf, asked, spans_of}
+use Rattle.span_tracing_laws.specs.isolation.IsolatedOutputs.{brought, turns_in}
+use Rattle.span_tracing_laws.specs.isolation.OwnRequests.{own_brings}
+use Rattle.span_tracing_laws.specs.isolation.OutputTurns.{came_some, comings, machine_lines, machine_run, machine_sends}
+use Rattle.span_tracing_laws.specs.runs.Files.{sink_turns, stack_sinks}
+use Rattle.span_tracing_laws.specs.starved.StarvedCounts.{NothingIsStarved, run_fated}
+use Rattle.span_tracing_laws.proofs.isolation.Appenders.{direct_alike}
+use Rattle.span_tracing_laws.proofs.isolation.Queues.{comings_met, queues_alike}
+use Rattle.span_tracing_laws.proofs.isolation.MetSinks.{met_its, some_same}
+use Rattle.span_tracing_laws.proofs.isolation.OwnRuns.{asked_same, run_is}
+use Rattle.span_tracing_laws.proofs.isolation.OwnSteps.{known_first}
+use Rattle.span_tracing_laws.proofs.isolation.Folds.{RunFolds, run_folds}
+use Rattle.span_tracing_laws.proofs.starved.WholeFates.{all_stay}
+
+-- the lines that come to a sink, whether or not the turns without one are left out
+came_lines : (lines : List (At × PlainLine)) (later : List SinkTurn) → came_in (came_some lines later) ≡ lines ++ came_in later
+came_lines [] later = refl
+came_lines (line ∷ lines) later = refl
+
+came_same : (ts : List SinkTurn) → came_in (comings ts) ≡ came_in ts
+came_same [] = refl
+came_same (Came lines ∷ ts) =
+    came_lines lines (comings ts) ∙ ap (λ (later : List (At × PlainLine)). lines ++ later) (came_same ts)
+came_same (Asked call reply ∷ ts) = came_same ts
+
+module _ {N E F D Q : Type 0} (contents : D → Option Contents) (failed : D → ℕ) (n : Ghosts N) (line_of : E → Settings → PlainContext →
+    PlainEvent → Option (List ℕ)) (g : FilterGhosts F) (h : LayerGhosts (Lines N E))
+    (settles : Q → List ℕ → Fate → Q → Type 0)
+    (starved : NothingIsStarved n line_of g (TakesRouted (TakesAny contents failed settles)) (CallsIn contents failed) outputs_hold h)
+    (meet : SinksMeetTheirs contents failed settles) (one_end : LinesHaveOneEnd) (writes : RunsAreTold contents failed) (exact : CountsAreExact)
+    (counted : StaysCounted) (steps_end : StepsHaveOneEnd) (drops : DropsAreExact) where
+  abbrev Run : Type 0
+  Run = OneRun contents failed n line_of g h settles
+
+  abbrev sinks_of : Run → List (Routed (AnySink D Q))
+  sinks_of r = stack_sinks (stack_in r.before r.stack)
+
+  folds : (r : Run) → RunFolds n (sinks_of r) r.stack r.place r.plain (turns_in contents failed n line_of g h settles r) r.out
+  folds r =
+      let ts = turns_in contents failed n line_of g h settles r in
+      let counts = starved r.road r.before ts r.replies r.after r.run.run.goes r.plain r.output.agrees r.stack r.place r.unstarved.before
+      r.unstarved.was in
+      let fated = run_fated n r.plain ts r.stack r.place in
+      let same = some_same _ r.unstarved.before _ counts.counts r.unstarved.stayed in
+      run_folds n (sinks_of r) r.stack r.place r.plain ts r.out r.output.machine r.output.rests
+      (all_stay fated r.unstarved.before r.unstarved.not_full same)
+
+  follows : (r : Run) → FollowsItsOwn contents failed n line_of g h settles r
+  follows r =
+      let all = folds r in
+      record {
+        agrees = (r.run.run.agreed r.plain r.output.agrees).1;
+        machine = all.out;
+        lines = all.lines;
+        sends = λ number. all.sends r.sinks.route number;
+      }
+
+  taken_by : (r : Run) (number : ℕ) (old new : RollingSink D) → DirectOf contents failed n line_of g h settles r number old new →
+      TakesRun (TakesLine contents failed)
+      (came_in (machine_sends n r.sinks.route number r.out.out (brought contents failed n line_of g h settles r))) old new
+  taken_by r number old new its =
+      let ts = sink_turns n r.before r.plain (turns_in contents failed n line_of g h settles r) r.stack r.place number r.sinks.route in
+      let (made, is, lines) = meet.direct ts old (Direct new)
+      (met_its contents failed n line_of g h settles r number (Direct old) (Direct new) its.sink).met in
+      let same : made ≡ new = cc in
+      let which = sym (came_same ts) ∙ ap came_in ((follows r).sends number) in
+      subst (λ (ls : List (At × PlainLine)). TakesRun (TakesLine contents failed) ls old new) which
+      (subst (TakesRun (TakesLine contents failed) (came_in ts) old) same lines)
+
+  queued_by : (r : Run) (number : ℕ) (old new : QueuedSink D) → QueuedOf contents failed n line_of g h settles r number old new →
+      QueueMeetsAll contents failed (machine_sends n r.sinks.route number r.out.out (brought contents failed n line_of g h settles r)) old new
+  queued_by r number old new its =
+      let ts = sink_turns n r.before r.plain (turns_in contents failed n line_of g h settles r) r.stack r.place number r.sinks.route in
+      let (made, is, goes) = meet.queued ts old (Queued new)
+      (met_its contents failed n line_of g h settles r number (Queued old) (Queued new) its.sink).met in
+      let same : made ≡ new = cc in
+      subst (λ (us : List SinkTurn). QueueMeetsAll contents failed us old new) ((follows r).sends number)
+      (comings_met contents failed drops steps_end ts old new (subst (QueueMeetsAll contents failed ts old) same goes))
+
+  -- what comes to a sink with the same number is the same
+  sends_alike : (one other : Run) → BeginAlike contents failed n line_of g h settles one other → (number : ℕ) →
+      machine_sends n other.sinks.route number other.out.out (brought contents failed n line_of g h settles other) ≡
+      machine_sends n one.sinks.route number one.out.out (brought contents failed n line_of g h settles one)
+  sends_alike one other begin number =
+      let ys = brought contents failed n line_of g h settles other in
+      ap (λ (r : Route). machine_sends n r number other.out.out ys) begin.route
+      ∙ ap (λ (o : PlainOut N). machine_sends n one.sinks.route number o ys) begin.machine
+      ∙ ap (machine_sends n one.sinks.route number one.out.out) begin.brought
+
+  alike : (one other : Run) → BeginAlike contents failed n line_of g h settles one other → EndAlike contents failed n line_of g h settles one other
+  alike one other begin =
+      let xs = brought contents failed n line_of g h settles one in
+      let ys = brought contents failed n line_of g h settles other in
+      record {
+        machine = ap (λ (o : PlainOut N). machine_run n o ys) begin.machine ∙ ap (machine_run n one.out.out) begin.brought;
+        lines = ap (λ (o : PlainOut N). machine_lines n o ys) begin.machine ∙ ap (machine_lines n one.out.out) begin.brought;
+        direct = λ number old new its same mine yours begun.
+            direct_alike contents failed one_end writes exact
+            (came_in (machine_sends n one.sinks.route number one.out.out xs)) old new its same
+            (taken_by one number old new mine)
+            (subst (λ (ts : List SinkTurn). TakesRun (TakesLine contents failed) (came_in ts) its same) (sends_alike one other begin number)
+            (taken_by other number its same yours))
+            mine.none yours.none begun;
+        queued = λ number old new its same mine yours begun.
+            queues_alike contents failed drops steps_end
+            (machine_sends n one.sinks.route number one.out.out xs) old new its same
+            (queued_by one number old new mine)
+            (subst (λ (ts : List SinkTurn). QueueMeetsAll contents failed ts its same) (sends_alike one other begin number)
+            (queued_by other number its same yours))
+            mine.none.stayed mine.none.not_full yours.none.stayed yours.none.not_full begun;
+      }
+
+  told : (r : Run) → IsCounted r.plain.skeleton →
+      brought contents failed n line_of g h settles r ≡
+      own_brings (spans_of contents failed n line_of g h settles r) (asked contents failed n line_of g h settles r)
+  told r count =
+      run_is n (sinks_of r) r.stack r.place r.out.number counted r.plain (turns_in contents failed n line_of g h settles r)
+      (spans_of contents failed n line_of g h settles r) count (known_first r.stack r.out.number r.plain.skeleton)
+      (slice_get-map (λ (o : Numbered N). o.number) (r.plain.outs r.stack) r.place
+      ∙ ap (option_map (λ (o : Numbered N). o.number)) r.output.machine)
+
+  asked_alike : (one other : Run) → AskedAlike contents failed n line_of g h settles one other → BeginAlike contents failed n line_of g h settles one other
+  asked_alike one other begin = record {
+    machine = begin.machine;
+    route = begin.route;
+    brought = told other begin.also
+        ∙ ap (λ (x : RegistryValue). own_brings x (asked contents failed n line_of g h settles other)) begin.spans
+        ∙ ap (own_brings (spans_of contents failed n line_of g h settles one))
+        (asked_same begin.says [] (asked contents failed n line_of g h settles other) (asked contents failed n line_of g h settles one) begin.requests
+        begin.other_says begin.one_says)
+        ∙ sym (told one begin.counted);
+  }
+
+  pub isolated : Isolated contents failed n line_of g h settles
+  isolated = record { follows = follows; told = told; alike = alike; asked_alike = asked_alike }

@@ -1,0 +1,4 @@
+pub mod OutputTurns
+pub mod OwnRequests
+pub mod IsolatedOutputs
+pub mod FaultyFolders
