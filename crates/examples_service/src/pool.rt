@@ -170,8 +170,8 @@ fn seats_of<L: Ledger>(alloc: Global, workers: Vec<Worker<L>>) -> Result<Vec<Sea
     Ok(seats)
 }
 
-/// Serves all jobs by as many threads as there are lanes, and answers the trace with its journal: one order of all steps, which the machine
-/// can follow.
+/// Serves all jobs by as many threads as there are lanes. The blank has a part for each lane, and one more. Answers the trace
+/// with its journal: one order of all steps, which the machine can follow.
 ///
 /// # Errors
 ///
