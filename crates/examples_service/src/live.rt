@@ -4,12 +4,13 @@ ghost use Rattle.span_tracing.specs.StepFollows.{TraceIsReady};
 
 use crate::pool::Sites;
 use crate::stop::Stop;
+use event_formatter_text::Route;
 use span_registry_layers::Filter;
-use span_tracing::laws::{leveled_outputs_are_honest, traces_start_ready};
+use span_tracing::laws::{leveled_outputs_are_honest, sites_stay_ready, traces_start_ready};
 use span_tracing::{
     AnySink, Builder, Clock, Fields, FileStack, Folder, Format, LineFormat, LineSettings, Lines,
-    LiveQueue, Moment, NonBlocking, NonBlockingBuilder, OutputKey, OutputSpec, Rotation, Route,
-    RoutedSinks, SinkSpec, Site, SystemClock, Timer, Trace, WorkerGuard, open_trace, setup_follows,
+    LiveQueue, Moment, NonBlocking, NonBlockingBuilder, OutputKey, OutputSpec, Rotation,
+    RoutedSinks, SinkSpec, Site, SystemClock, Timer, Trace, WorkerGuard, open_trace,
 };
 use std::alloc::{AllocGlobal, Global};
 use std::rt;
@@ -61,7 +62,8 @@ pub(crate) fn output<D: Drop, Q: Drop>(
     lines: LineSettings,
     queue: Q,
 ) -> Result<OutputSpec<LevelFilter, D, Q>, Stop> {
-    let sinks = vec![in alloc; SinkSpec::Live(queue)]?;
+    let mut sinks = Vec::new(alloc);
+    sinks.push(SinkSpec::Live(queue))?;
     match OutputSpec::new(key, LevelFilter::INFO, lines, Route::Sink(0), sinks) {
         Ok(output) => Ok(output),
         Err(refused) => Err(Stop::from(refused.error)),
@@ -90,7 +92,12 @@ fn register<D: Folder, Q: LiveQueue>(trace: &mut LiveTrace<D, Q>) -> Result<Site
     ensures { TraceIsReady ⟦<LevelFilter as Filter>⟧ ⟦<Lines as span_registry_layers::Layer>⟧ trace.old →
         TraceIsReady ⟦<LevelFilter as Filter>⟧ ⟦<Lines as span_registry_layers::Layer>⟧ trace.new }
 {
-    setup_follows::<Fields, Format<LineFormat, Timer>, LevelFilter, RoutedSinks<AnySink<D, Q>>>();
+    sites_stay_ready::<
+        Fields,
+        Format<LineFormat, Timer>,
+        LevelFilter,
+        RoutedSinks<AnySink<D, Q>>,
+    >();
     let request = Site::span(trace, "service", "request", Level::INFO, &["job"])?;
     let told = Site::event(trace, "service", "told", Level::INFO, &["message", "job"])?;
     Ok(Sites { request, told })
