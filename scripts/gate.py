@@ -164,6 +164,8 @@ class Gate:
         self.seconds = json.loads(rtlib.text_of(SECONDS) or "{}")
         # the crates whose edits were looked at, so that the ledger's lines of all others stay
         self.seen = set()
+        below = {each.name for it in crates for each in it.below()}
+        self.memory = {it.name: lanes.MEMORY if it.name in below else lanes.MEMORY_OF_TOP for it in crates}
         for it in crates:
             it.kept = f"{room}/{it.name}"
 
@@ -180,7 +182,7 @@ class Gate:
             lines = sum(rtlib.text_of(file).count("\n") for file in rtlib.files_of(it.folder) if file.endswith((".rt", ".antt")))
             after = [(it.name, "proof")]
             work = self.seconds.get(it.name, A_LINE * lines + A_PROGRAM * it.is_program)
-            found[it.name, "proof"] = lanes.Task(below, work, lambda it=it: proof(it))
+            found[it.name, "proof"] = lanes.Task(below, work, lambda it=it: proof(it), self.memory[it.name])
             if it.is_program:
                 found[it.name, "program"] = lanes.Task(after, 40, lambda it=it: program(it))
             if it.name == cases.PROGRAM:
@@ -247,7 +249,7 @@ class Gate:
             crate.keeps = crate.keeps or bool(groups) and not self.is_late()
             for at, files in enumerate(groups, 1):
                 call = lambda files=files: self.judged(crate, files)
-                follow[name, f"edits {at}"] = lanes.Task([(name, "proof")], 25 * len(files), call)
+                follow[name, f"edits {at}"] = lanes.Task([(name, "proof")], 25 * len(files), call, self.memory[name])
         elif part == "edits" and it.is_well:
             for edit, (is_refused, text) in sorted((edit, came) for edit, came in it.gave.items() if came):
                 print(f"gate: must-fail {name}/{edit}: {text}")
