@@ -41,8 +41,8 @@ from kit import Crate, rt, rtlib  # noqa: E402
 LEDGER = "docs/edits.ledger"
 # What tasks took when a run was last measured, in seconds of one processor. Tasks are started by it, and nothing is decided by it.
 SECONDS = f"{os.path.dirname(os.path.realpath(__file__))}/seconds.json"
-# What runs a crate's tests, in the crate's folder.
-TESTS = [f"{os.path.dirname(os.path.realpath(__file__))}/unproved.py", "--test"]
+# What runs a crate's tests, in the crate's folder. Some sweep over hundreds of runs.
+TESTS = [f"{os.path.dirname(os.path.realpath(__file__))}/unproved.py", "--test", "--seconds", "300"]
 # What READMEs show parts of: each of these is proved or run.
 EXAMPLES = ["crates/examples/src/**/*.rt", "crates/uses/src/**/*.rt"]
 # What a line takes where nothing was measured, and a program's proof beside its lines: its types name every part below.
