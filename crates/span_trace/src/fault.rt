@@ -9,11 +9,13 @@ use std::io::Write;
 
 /// Why a line of the input stops the program.
 #[derive(Clone, Copy, Debug, PartialEq, Eq)]
-pub(crate) enum Fault {
+pub enum Fault {
     /// The line is not read.
     Unread(LineFault),
     /// The setup call of the line was refused.
     Refused(Refusal),
+    /// No thread could be made for a sink of the line.
+    NoThread,
 }
 
 impl From<LineFault> for Fault {
@@ -42,6 +44,7 @@ impl Fault {
         match self {
             Fault::Refused(Refusal::FolderRefused) => 3,
             Fault::Refused(Refusal::OutOfMemory) | Fault::Unread(LineFault::OutOfMemory) => 4,
+            Fault::NoThread => 4,
             Fault::Refused(_) | Fault::Unread(_) => 2,
         }
     }
@@ -49,8 +52,8 @@ impl Fault {
 
 /// Why the program ends before its steps have run.
 #[derive(Clone, Copy, Debug, PartialEq, Eq)]
-pub(crate) enum Stop {
-    /// The arguments are not the one word `replay`.
+pub enum Stop {
+    /// The arguments are not the one word `replay` or `threads`.
     Usage,
     /// The line of this number, from 1, is at fault.
     Line { number: u64, fault: Fault },
@@ -88,6 +91,7 @@ impl Stop {
                     let refused = refusal.number();
                     writeln!(errors, "span-trace: line {number}: refused {refused}")
                 }
+                Fault::NoThread => writeln!(errors, "span-trace: line {number}: no thread"),
             },
             Stop::OutOfMemory => Ok(()),
         };

@@ -1,21 +1,29 @@
-//! Replays calls of events and spans that stand as JSON lines on standard input, and prints the replies and the files.
+//! Replays calls of events and spans that stand as JSON lines on standard input, or runs them in threads, and prints the replies and the
+//! files.
 #![tactic(auto)]
 
+mod command;
 mod fault;
+mod lanes;
 mod lines;
 mod output;
 mod program;
 mod read;
+mod ready_trace;
 mod run;
 mod script;
 mod setup;
+mod sites;
 mod stack;
+mod threads;
+mod workers;
 
 pub use program::main_with;
 use std::alloc::AllocError;
 use std::io::ErrorKind;
 use std::process::ExitCode;
 use std::{env, io};
+use threads::SystemThreads;
 
 #[cfg(test)]
 mod tests;
@@ -41,6 +49,7 @@ fn main(rt: HostRuntime) -> ExitCode {
     };
     let status = main_with(
         &rt,
+        &SystemThreads { rt, files: rt },
         arguments.as_slice(),
         &mut rt.stdin(),
         &mut io::writer(&rt),

@@ -1,29 +1,40 @@
 //! The program over any input and outputs.
 
-ghost use Rattle.std.specs.Prelude.{◌≡◌, ◌≤◌, ◌⊎◌, false, map, string_bytes};
-ghost use Rattle.span_trace.specs.Arguments.{asks_replay};
+ghost use Rattle.std.specs.Prelude.{◌≡◌, ◌≤◌, ◌⊎◌, None, map, string_bytes};
+ghost use Rattle.span_trace.specs.Arguments.{command_of};
 
+use crate::command::{Command, command_of};
 use crate::fault::Stop;
 use crate::lines::{PrintFault, write_files, write_replies};
 use crate::read::Input;
+use crate::ready_trace::ReadyTrace;
 use crate::run::run_steps;
 use crate::script::Script;
 use crate::setup::Stage;
 use crate::stack::{LogFolder, LogStack};
-use span_tracing::{AnySink, EitherFolder, Reply, RoutedSinks, Trace};
+use crate::threads::{LanesAnswer, RunsLanes};
+use span_tracing::{AnySink, EitherFolder, NoLive, Reply, RoutedSinks};
 use std::alloc::Global;
 use std::io::{Read, Write};
 use std::rt::Files;
 
+/// What a command leaves to be written.
+trait Answer: Drop {
+    /// Whether a step was refused.
+    fn has_refusal(&self) -> bool;
+
+    fn write<W: Write>(&self, alloc: Global, output: &mut W) -> Result<(), PrintFault>;
+}
+
 /// A trace whose steps have run, with the replies.
 #[derive(Drop)]
-struct Answer<X: Files + AllocGlobal + Clone + Drop> {
+struct Replayed<X: Files + AllocGlobal + Clone + Drop> {
     replies: Vec<Reply>,
-    trace: Trace<LogStack<X>>,
+    trace: ReadyTrace<LogFolder<X>, NoLive>,
     folders: Vec<Option<String>>,
 }
 
-impl<X: Files + AllocGlobal + Clone + Drop> Answer<X> {
+impl<X: Files + AllocGlobal + Clone + Drop> Answer for Replayed<X> {
     fn has_refusal(&self) -> bool {
         self.replies
             .iter()
@@ -39,6 +50,16 @@ impl<X: Files + AllocGlobal + Clone + Drop> Answer<X> {
             }
         }
         Ok(())
+    }
+}
+
+impl Answer for LanesAnswer {
+    fn has_refusal(&self) -> bool {
+        self.has_refusal()
+    }
+
+    fn write<W: Write>(&self, alloc: Global, output: &mut W) -> Result<(), PrintFault> {
+        self.write(alloc, output)
     }
 }
 
@@ -77,47 +98,83 @@ fn write_output<'a, X: Files + AllocGlobal + Clone + Drop, W: Write>(
     Ok(rest)
 }
 
-/// Whether the arguments are the one word `replay`.
-fn asks_replay(arguments: &[String]) -> bool
-    ensures { result ≡ asks_replay (map string_bytes arguments.now) }
-{
-    match arguments {
-        [word] => word.as_str() == "replay",
-        _ => false,
-    }
+/// Reads the whole input as a command has it.
+fn read<R: Read>(alloc: Global, command: Command, input: &mut R) -> Result<Script, Stop> {
+    let read = Input::read(alloc, input)?;
+    Script::read(alloc, command, &read)
 }
 
-/// Reads the whole input, makes its setup calls, and then runs its steps.
+/// Makes the setup calls of an input, and then runs its steps.
 fn replay<X: Files + AllocGlobal + Clone + Drop, R: Read>(
     rt: &X,
     input: &mut R,
-) -> Result<Answer<X>, Stop> {
+) -> Result<Replayed<X>, Stop> {
     let alloc = rt.alloc();
-    let read = Input::read(alloc, input)?;
-    let Script { setup, steps } = Script::read(alloc, &read)?;
+    let Script { setup, steps, .. } = read(alloc, Command::Replay, input)?;
     let Stage {
         mut trace,
         callsites,
-        folders,
+        sinks: folders,
         mut shelf,
-    } = Stage::<LogStack<X>>::set_up(alloc, rt, setup)?;
-    let replies = run_steps(alloc, &mut trace, callsites.as_slice(), &mut shelf, steps)?;
-    Ok(Answer {
+    } = Stage::set_up(alloc, rt, setup)?;
+    let callsites = callsites.as_slice();
+    let replies = run_steps(alloc, &mut trace, callsites, shelf.as_mut_slice(), steps)?;
+    Ok(Replayed {
         replies,
         trace,
         folders,
     })
 }
 
-/// Runs the program on one word, `replay`, and an input of JSON lines, and gives its status.
+/// Runs the lanes of an input in threads.
+fn run_lanes<T: RunsLanes, R: Read>(
+    alloc: Global,
+    threads: &T,
+    input: &mut R,
+) -> Result<LanesAnswer, Stop> {
+    let script = read(alloc, Command::Threads, input)?;
+    threads.run_script(script)
+}
+
+/// Writes what a command gave, and gives the program's status.
+fn ended<A: Answer, W: Write, E: Write>(
+    alloc: Global,
+    ran: Result<A, Stop>,
+    output: &mut W,
+    errors: &mut E,
+) -> u8
+    ensures range { result ≤ 5 }
+    ensures quiet { (result ≡ 2) ⊎ (result ≡ 3) → output.new ≡ output.old }
+{
+    match ran {
+        Err(stop) => {
+            stop.tell(errors);
+            stop.status()
+        }
+        Ok(answer) => match answer.write(alloc, output) {
+            Err(fault) => fault.status(),
+            Ok(()) => u8::from(answer.has_refusal()),
+        },
+    }
+}
+
+/// Runs the program on one word, `replay` or `threads`, and an input of JSON lines, and gives its status.
 ///
 /// 0: done. 1: a step was refused; all steps ran. 2: the arguments or a line are not readable, or a setup
-/// call was refused. 3: a folder refused a setup call. 4: there was no memory outside a step. 5: the output
+/// call was refused. 3: a folder refused a setup call. 4: there was no memory outside a step, or no thread for a sink. 5: the output
 /// refused a write.
 ///
-/// The output has a line for each step and then one for each file. With 2 and 3 nothing is written to it.
-pub fn main_with<X: Files + AllocGlobal + Clone + Drop, R: Read, W: Write, E: Write>(
+/// The output has a line for each step, or for threads one with their number, and then one for each file. With 2 and 3 nothing is written to
+/// it.
+pub fn main_with<
+    X: Files + AllocGlobal + Clone + Drop,
+    T: RunsLanes,
+    R: Read,
+    W: Write,
+    E: Write,
+>(
     rt: &X,
+    threads: &T,
     arguments: &[String],
     input: &mut R,
     output: &mut W,
@@ -125,26 +182,21 @@ pub fn main_with<X: Files + AllocGlobal + Clone + Drop, R: Read, W: Write, E: Wr
 ) -> u8
     ensures range { result ≤ 5 }
 
-    // Arguments other than the one word `replay` give status 2.
-    ensures usage { asks_replay (map string_bytes arguments.now) ≡ false → result ≡ 2 }
+    // Arguments other than the one word `replay` or `threads` give status 2.
+    ensures usage { command_of (map string_bytes arguments.now) ≡ None → result ≡ 2 }
     // With such arguments the input isn't read.
-    ensures unread { asks_replay (map string_bytes arguments.now) ≡ false → input.new ≡ input.old }
+    ensures unread { command_of (map string_bytes arguments.now) ≡ None → input.new ≡ input.old }
 
     // With status 2 or 3 nothing is written to the output.
     ensures quiet { (result ≡ 2) ⊎ (result ≡ 3) → output.new ≡ output.old }
 {
-    if !asks_replay(arguments) {
+    let Some(command) = command_of(arguments) else {
         Stop::Usage.tell(errors);
         return Stop::Usage.status();
-    }
-    match replay(rt, input) {
-        Err(stop) => {
-            stop.tell(errors);
-            stop.status()
-        }
-        Ok(answer) => match answer.write(rt.alloc(), output) {
-            Err(fault) => fault.status(),
-            Ok(()) => u8::from(answer.has_refusal()),
-        },
+    };
+    let alloc = rt.alloc();
+    match command {
+        Command::Replay => ended(alloc, replay(rt, input), output, errors),
+        Command::Threads => ended(alloc, run_lanes(alloc, threads, input), output, errors),
     }
 }

@@ -1,79 +1,57 @@
 //! The steps of a script, run on a trace.
 
 use crate::lines::{CallsiteLine, NamedValue, RecordLine, StepLine, SwapLine};
-use crate::stack::LeveledStack;
-use span_tracing::{FieldValue, Folder, RecordCall, Refusal, Reply, SpanName, Step, Trace};
-use span_tracing_skeleton::{HasOutputs, HasRegistry, HasSinks};
+use crate::ready_trace::ReadyTrace;
+use crate::sites::Sites;
+use span_tracing::{FieldValue, Folder, LiveQueue, RecordCall, Reply, Step};
 use std::alloc::{AllocError, Global};
-use tracing_core::{LevelFilter, Subscriber};
+use tracing_core::LevelFilter;
 
 /// The replies so far, and which callsite each span is of.
 #[derive(Debug, Drop)]
 struct Replies {
     replies: Vec<Reply>,
-    /// By stack the callsites of the spans that were made. A stack gives ids in order from 1, so that of its
-    /// span N stands at place N - 1.
-    sites: Vec<Vec<u64>>,
+    sites: Sites,
 }
 
 impl Replies {
-    /// No reply yet, over so many stacks.
-    fn new(alloc: Global, stacks: usize) -> Result<Replies, AllocError> {
-        let mut told = Replies {
-            replies: Vec::new(alloc),
-            sites: Vec::new(alloc),
-        };
-        for _ in 0..stacks {
-            told.sites.push(Vec::new(alloc))?;
-        }
-        Ok(told)
-    }
-
     /// Runs the steps, which are then done.
-    fn run<D: Folder>(
+    fn run<D: Folder, Q: LiveQueue>(
         &mut self,
-        trace: &mut Trace<LeveledStack<D>>,
+        trace: &mut ReadyTrace<D, Q>,
         steps: &mut Vec<Step>,
     ) -> Result<(), AllocError> {
         let replies = trace.run(steps.as_slice())?;
         for (step, reply) in steps.iter().zip(replies.iter()) {
-            if let (Step::NewSpan(span), Reply::Span(Some(name))) = (step, reply)
-                && let Some(sites) = self.sites.get_mut(name.stack)
-            {
-                sites.push(span.callsite.0)?;
-            }
+            self.sites.note(step, reply)?;
         }
         self.replies.extend_from_slice(replies.as_slice())?;
         steps.clear();
         Ok(())
     }
-
-    /// The callsite of a span that was made.
-    fn site_of(&self, span: Option<SpanName>) -> Option<u64> {
-        let name = span?;
-        let place = name.id.get().checked_sub(1)? as usize;
-        self.sites.get(name.stack)?.get(place).copied()
-    }
 }
 
 /// Runs the steps in order. Before a record those so far are run, since their replies tell the callsite of its span, and so before a swap,
 /// which is no step of a run.
-pub(crate) fn run_steps<D: Folder>(
+pub(crate) fn run_steps<D: Folder, Q: LiveQueue>(
     alloc: Global,
-    trace: &mut Trace<LeveledStack<D>>,
+    trace: &mut ReadyTrace<D, Q>,
     callsites: &[CallsiteLine],
     shelf: &mut [LevelFilter],
     lines: Vec<StepLine>,
 ) -> Result<Vec<Reply>, AllocError> {
-    let mut told = Replies::new(alloc, trace.stack_count())?;
+    let mut told = Replies {
+        replies: Vec::new(alloc),
+        sites: Sites::new(alloc, trace.stack_count())?,
+    };
     let mut steps = Vec::new(alloc);
     for line in lines {
         match line {
             StepLine::Whole(step) => steps.push(step)?,
             StepLine::Record(record) => {
                 told.run(trace, &mut steps)?;
-                let callsite = callsite_of(callsites, told.site_of(record.span));
-                steps.push(Step::Record(record_call(alloc, callsite, record)?))?;
+                let site = told.sites.site_of(record.span);
+                steps.push(record_step(alloc, callsites, site, record)?)?;
             }
             StepLine::Swap(swap) => {
                 told.run(trace, &mut steps)?;
@@ -86,52 +64,42 @@ pub(crate) fn run_steps<D: Folder>(
 }
 
 /// Lets the filter of an output and one of the shelf change places.
-fn swapped<D: Folder>(
-    trace: &mut Trace<LeveledStack<D>>,
+fn swapped<D: Folder, Q: LiveQueue>(
+    trace: &mut ReadyTrace<D, Q>,
     shelf: &mut [LevelFilter],
     swap: SwapLine,
 ) -> Reply {
     match shelf.get_mut(swap.shelf) {
         Some(filter) => trace.swap_filter(swap.output, filter),
-        None => Reply::Refused(swap_refusal(trace, swap.output)),
+        None => Reply::Refused(trace.swap_refusal(swap.output)),
     }
 }
 
-/// Why a filter that the shelf lacks isn't swapped with that of an output.
-fn swap_refusal<T: Subscriber + HasRegistry + HasOutputs + HasSinks>(
-    trace: &Trace<T>,
-    output: usize,
-) -> Refusal {
-    if trace.is_busy() {
-        return Refusal::Busy;
-    }
-    let refusal = trace.output_refusal(output);
-    refusal.unwrap_or(Refusal::UnknownShelf)
-}
-
-/// The first callsite of that id.
-fn callsite_of(callsites: &[CallsiteLine], id: Option<u64>) -> Option<&CallsiteLine> {
-    let id = id?;
-    callsites.iter().find(|line| line.id == id)
-}
-
-fn record_call(
+/// The record of a line, on a span of the callsite with that id.
+pub(crate) fn record_step(
     alloc: Global,
-    callsite: Option<&CallsiteLine>,
+    callsites: &[CallsiteLine],
+    site: Option<u64>,
     record: RecordLine,
-) -> Result<RecordCall, AllocError> {
+) -> Result<Step, AllocError> {
     let RecordLine {
         lane,
         moment,
         span,
         values,
     } = record;
-    Ok(RecordCall {
+    Ok(Step::Record(RecordCall {
         lane,
         moment,
         span,
-        values: values_at(alloc, callsite, values)?,
-    })
+        values: values_at(alloc, callsite_of(callsites, site), values)?,
+    }))
+}
+
+/// The first callsite of that id.
+fn callsite_of(callsites: &[CallsiteLine], id: Option<u64>) -> Option<&CallsiteLine> {
+    let id = id?;
+    callsites.iter().find(|line| line.id == id)
 }
 
 /// The values of the callsite's fields. One whose field the callsite lacks is passed over, and so are all

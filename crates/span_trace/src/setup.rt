@@ -2,38 +2,38 @@
 
 use crate::fault::{Fault, Stop};
 use crate::lines::{CallsiteLine, LaneLine, Setup, StackLine};
+use crate::ready_trace::ReadyTrace;
 use crate::stack::OpensStacks;
-use span_tracing::{Refusal, Trace};
-use span_tracing_skeleton::{HasOutputs, HasRegistry, HasSinks};
+use span_tracing::{Folder, LiveQueue, Refusal};
 use std::alloc::{AllocError, Global};
-use tracing_core::{FieldSet, Identifier, LevelFilter, Metadata, Subscriber};
+use tracing_core::{FieldSet, Identifier, LevelFilter, Metadata};
 
-/// A trace that is set up, its callsites' lines, and for each sink the name under which its files are shown, where they are in
-/// memory: of the first stack's sinks in order, then of the second's, and so on.
+/// A trace that is set up, its callsites' lines, and what was told of each sink: of the first stack's sinks in order, then of the second's,
+/// and so on.
 #[derive(Drop)]
-pub(crate) struct Stage<T: Subscriber> {
-    pub(crate) trace: Trace<T>,
+pub(crate) struct Stage<D: Folder, Q: LiveQueue, S: Drop> {
+    pub(crate) trace: ReadyTrace<D, Q>,
     pub(crate) callsites: Vec<CallsiteLine>,
-    pub(crate) folders: Vec<Option<String>>,
+    pub(crate) sinks: Vec<S>,
     /// Filters that steps may let change places with those of outputs.
     pub(crate) shelf: Vec<LevelFilter>,
 }
 
-impl<T: Subscriber + HasRegistry + HasOutputs + HasSinks> Stage<T> {
+impl<D: Folder, Q: LiveQueue, S: Drop> Stage<D, Q, S> {
     /// Makes the calls in order.
     ///
     /// # Errors
     ///
     /// The first refused call, by its line.
-    pub(crate) fn set_up<O: OpensStacks<T>>(
+    pub(crate) fn set_up<O: OpensStacks<D, Q, Told = S>>(
         alloc: Global,
         opener: &O,
         setup: Vec<Setup>,
-    ) -> Result<Stage<T>, Stop> {
+    ) -> Result<Stage<D, Q, S>, Stop> {
         let mut stage = Stage {
-            trace: Trace::new(alloc),
+            trace: ReadyTrace::new(alloc),
             callsites: Vec::new(alloc),
-            folders: Vec::new(alloc),
+            sinks: Vec::new(alloc),
             shelf: Vec::new(alloc),
         };
         let mut number: u64 = 0;
@@ -46,7 +46,7 @@ impl<T: Subscriber + HasRegistry + HasOutputs + HasSinks> Stage<T> {
         Ok(stage)
     }
 
-    fn make<O: OpensStacks<T>>(
+    fn make<O: OpensStacks<D, Q, Told = S>>(
         &mut self,
         alloc: Global,
         opener: &O,
@@ -60,12 +60,13 @@ impl<T: Subscriber + HasRegistry + HasOutputs + HasSinks> Stage<T> {
         }
     }
 
-    fn add_stack<O: OpensStacks<T>>(&mut self, opener: &O, line: StackLine) -> Result<(), Fault> {
-        let stack = opener.open(line, &mut self.folders)?;
-        match self.trace.add_stack(stack) {
-            Ok(_) => Ok(()),
-            Err(_) => Err(Fault::Refused(Refusal::OutOfMemory)),
-        }
+    fn add_stack<O: OpensStacks<D, Q, Told = S>>(
+        &mut self,
+        opener: &O,
+        line: StackLine,
+    ) -> Result<(), Fault> {
+        let stack = opener.open(line, &mut self.sinks)?;
+        self.trace.add_stack(stack).map_err(Fault::Refused)
     }
 
     fn add_callsite(&mut self, alloc: Global, line: CallsiteLine) -> Result<(), Fault> {
@@ -86,17 +87,11 @@ impl<T: Subscriber + HasRegistry + HasOutputs + HasSinks> Stage<T> {
             FieldSet::new(names.as_slice(), identifier),
             line.kind,
         );
-        match self.trace.register(identifier, &metadata) {
-            Ok(_) => Ok(()),
-            Err(refusal) => Err(refusal),
-        }
+        self.trace.register(identifier, &metadata)
     }
 
     fn add_lane(&mut self, line: LaneLine) -> Result<(), Refusal> {
-        match self.trace.thread(line.name, line.thread) {
-            Ok(_) => Ok(()),
-            Err(_) => Err(Refusal::OutOfMemory),
-        }
+        self.trace.add_lane(line.name, line.thread)
     }
 }
 
