@@ -11,11 +11,10 @@ use span_tracing::{
 };
 use std::alloc::{AllocError, AllocGlobal, Global};
 use std::marker::Brand;
-use std::mem;
 use std::sync::ledger::{Blank, Ledger};
 use std::sync::{Mutex, Wait};
-use std::thread;
 use std::thread::Threads;
+use std::{mem, thread};
 
 /// A lane with the steps that it is to take.
 #[derive(Drop)]
@@ -46,7 +45,12 @@ impl<'a, L: Ledger, T: CarriesOut> Desk<'a, L, T> {
         }
     }
 
-    fn make_span<R: Wait>(&self, rt: &R, seat: &mut Seat<L>, step: &Step) -> Result<(), AllocError> {
+    fn make_span<R: Wait>(
+        &self,
+        rt: &R,
+        seat: &mut Seat<L>,
+        step: &Step,
+    ) -> Result<(), AllocError> {
         let mut sites = self.sites.lock(rt);
         let reply = self.call(rt, seat, step)?;
         sites.note(step, &reply)
@@ -121,11 +125,11 @@ fn seated<L: Ledger, T: CarriesOut, R: AllocGlobal + Wait>(
 }
 
 /// Lets each lane take its steps in a thread of its own.
-fn run_each<
-    L: Ledger + Send + Sync,
-    T: CarriesOut<Start: Send> + Send,
-    R: Threads + Wait + Sync,
->(rt: &R, desk: &Desk<'_, L, T>, lanes: &mut [LaneRun<L>]) {
+fn run_each<L: Ledger + Send + Sync, T: CarriesOut<Start: Send> + Send, R: Threads + Wait + Sync>(
+    rt: &R,
+    desk: &Desk<'_, L, T>,
+    lanes: &mut [LaneRun<L>],
+) {
     let count = lanes.len();
     if count > 0 {
         thread::for_each_mut(rt, lanes, count, &|_, lane| desk.run(rt, lane));
@@ -133,10 +137,7 @@ fn run_each<
 }
 
 /// The seats of lanes that took all their steps.
-fn seats_of<L: Ledger>(
-    alloc: Global,
-    lanes: Vec<LaneRun<L>>,
-) -> Result<Vec<Seat<L>>, AllocError> {
+fn seats_of<L: Ledger>(alloc: Global, lanes: Vec<LaneRun<L>>) -> Result<Vec<Seat<L>>, AllocError> {
     let mut seats = Vec::new(alloc);
     for lane in lanes {
         if lane.is_starved {
@@ -202,10 +203,7 @@ fn is_refused(entry: &JournalEntry) -> bool {
 /// # Errors
 ///
 /// Out of memory.
-pub(crate) fn run_lanes<
-    T: CarriesOut<Start: Send> + Send,
-    R: AllocGlobal + Threads + Wait + Sync,
->(
+pub(crate) fn run_lanes<T: CarriesOut<Start: Send> + Send, R: AllocGlobal + Threads + Wait + Sync>(
     rt: &R,
     trace: T,
     sites: Sites,

@@ -166,13 +166,7 @@ fn ended<A: Answer, W: Write, E: Write>(
 ///
 /// The output has a line for each step, or for threads one with their number, and then one for each file. With 2 and 3 nothing is written to
 /// it.
-pub fn main_with<
-    X: Files + AllocGlobal + Clone + Drop,
-    T: RunsLanes,
-    R: Read,
-    W: Write,
-    E: Write,
->(
+pub fn main_with<X: Files + AllocGlobal + Clone + Drop, T: RunsLanes, R: Read, W: Write, E: Write>(
     rt: &X,
     threads: &T,
     arguments: &[String],

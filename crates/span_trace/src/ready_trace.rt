@@ -24,7 +24,12 @@ pub(crate) struct ReadyTrace<D: Folder, Q: LiveQueue> {
 impl<D: Folder, Q: LiveQueue> ReadyTrace<D, Q> {
     /// A trace with no stack, no lane and no callsite.
     pub(crate) fn new(alloc: Global) -> ReadyTrace<D, Q> {
-        traces_start_ready::<Fields, Format<LineFormat, Timer>, LevelFilter, RoutedSinks<AnySink<D, Q>>>();
+        traces_start_ready::<
+            Fields,
+            Format<LineFormat, Timer>,
+            LevelFilter,
+            RoutedSinks<AnySink<D, Q>>,
+        >();
         ReadyTrace {
             trace: Trace::new(alloc),
         }
@@ -38,7 +43,12 @@ impl<D: Folder, Q: LiveQueue> ReadyTrace<D, Q> {
     pub(crate) fn add_stack(&mut self, stack: LeveledStack<D, Q>) -> Result<(), Refusal>
         requires { IsReady ⟦<LevelFilter as Filter>⟧ stack }
     {
-        setup_follows::<Fields, Format<LineFormat, Timer>, LevelFilter, RoutedSinks<AnySink<D, Q>>>();
+        setup_follows::<
+            Fields,
+            Format<LineFormat, Timer>,
+            LevelFilter,
+            RoutedSinks<AnySink<D, Q>>,
+        >();
         match self.trace.add_stack(stack) {
             Ok(_) => Ok(()),
             Err(_) => Err(Refusal::OutOfMemory),
@@ -55,7 +65,12 @@ impl<D: Folder, Q: LiveQueue> ReadyTrace<D, Q> {
         identifier: Identifier,
         metadata: &Metadata<'_>,
     ) -> Result<(), Refusal> {
-        setup_follows::<Fields, Format<LineFormat, Timer>, LevelFilter, RoutedSinks<AnySink<D, Q>>>();
+        setup_follows::<
+            Fields,
+            Format<LineFormat, Timer>,
+            LevelFilter,
+            RoutedSinks<AnySink<D, Q>>,
+        >();
         match self.trace.register(identifier, metadata) {
             Ok(_) => Ok(()),
             Err(refusal) => Err(refusal),
@@ -68,7 +83,12 @@ impl<D: Folder, Q: LiveQueue> ReadyTrace<D, Q> {
     ///
     /// Out of memory.
     pub(crate) fn add_lane(&mut self, name: Option<String>, thread: u64) -> Result<(), Refusal> {
-        traces_start_ready::<Fields, Format<LineFormat, Timer>, LevelFilter, RoutedSinks<AnySink<D, Q>>>();
+        traces_start_ready::<
+            Fields,
+            Format<LineFormat, Timer>,
+            LevelFilter,
+            RoutedSinks<AnySink<D, Q>>,
+        >();
         match self.trace.thread(name, thread) {
             Ok(_) => Ok(()),
             Err(_) => Err(Refusal::OutOfMemory),

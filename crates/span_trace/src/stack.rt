@@ -46,11 +46,7 @@ pub(crate) trait OpensStacks<D: Folder, Q: LiveQueue> {
 impl<X: Files + AllocGlobal + Clone + Drop> OpensStacks<LogFolder<X>, NoLive> for X {
     type Told = Option<String>;
 
-    fn open(
-        &self,
-        line: StackLine,
-        told: &mut Vec<Option<String>>,
-    ) -> Result<LogStack<X>, Fault> {
+    fn open(&self, line: StackLine, told: &mut Vec<Option<String>>) -> Result<LogStack<X>, Fault> {
         leveled_outputs_are_honest::<LogFolder<X>, NoLive>();
         let outputs = outputs_of(self, line.outputs, told)?;
         match open_stack(self.alloc(), outputs, line.moment) {

@@ -3,9 +3,13 @@
 mod readable;
 mod refusals;
 mod streams;
+mod threads;
 mod unreadable;
 
+use crate::fault::Stop;
 use crate::program::main_with;
+use crate::script::Script;
+use crate::threads::{LanesAnswer, RunsLanes};
 use std::alloc::{AllocError, Global};
 use std::io::Read;
 use std::process::Abort;
@@ -55,9 +59,29 @@ pub(crate) struct Want<'a> {
     pub(crate) errors: &'a str,
 }
 
-/// The program on these words and this input.
+/// Runs no lanes, as where there is no memory.
+#[derive(Clone, Copy, Drop)]
+pub(crate) struct NoThreads;
+
+impl RunsLanes for NoThreads {
+    fn run_script(&self, _script: Script) -> Result<LanesAnswer, Stop> {
+        Err(Stop::OutOfMemory)
+    }
+}
+
+/// The program on these words and this input, without threads.
 pub(crate) fn run_on<X: Files + AllocGlobal + Clone + Drop, R: Read>(
     rt: &X,
+    words: &[&str],
+    input: &mut R,
+) -> Result<Run, Fail> {
+    run_over(rt, &NoThreads, words, input)
+}
+
+/// The program on these words and this input, whose lanes run so.
+pub(crate) fn run_over<X: Files + AllocGlobal + Clone + Drop, T: RunsLanes, R: Read>(
+    rt: &X,
+    threads: &T,
     words: &[&str],
     input: &mut R,
 ) -> Result<Run, Fail> {
@@ -65,7 +89,8 @@ pub(crate) fn run_on<X: Files + AllocGlobal + Clone + Drop, R: Read>(
     let words = words_of(alloc, words)?;
     let mut output = Vec::with_capacity(alloc, ROOM)?;
     let mut errors = Vec::with_capacity(alloc, ROOM)?;
-    let status = main_with(rt, words.as_slice(), input, &mut output, &mut errors);
+    let words = words.as_slice();
+    let status = main_with(rt, threads, words, input, &mut output, &mut errors);
     Ok(Run {
         status,
         output,

@@ -81,7 +81,11 @@ impl<
     }
 }
 
-impl<'a, O, R: AllocGlobal + Threads + Wait + Copy + Send + Drop + 'static> StartsWorkers<'a, O, R> {
+impl<'a, O, R: AllocGlobal + Threads + Wait + Copy + Send + Drop + 'static> StartsWorkers<
+    'a,
+    O,
+    R,
+> {
     fn outputs<D: Folder + Send + 'static>(
         &self,
         clock: &FixedClock,

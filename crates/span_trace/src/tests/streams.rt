@@ -2,7 +2,8 @@
 
 use crate::program::main_with;
 use crate::tests::{
-    DEFAULT, EVENT, LANE, Run, expect_stop, joined, replayed, run_on, script_of, words_of,
+    DEFAULT, EVENT, LANE, NoThreads, Run, expect_stop, joined, replayed, run_on, script_of,
+    words_of,
 };
 use std::alloc::Global;
 use std::io;
@@ -51,9 +52,9 @@ impl Read for Spaces {
 
 /// Takes some writes, and then refuses.
 #[derive(Drop)]
-struct BrokenWriter {
-    left: u64,
-    bytes: Vec<u8>,
+pub(super) struct BrokenWriter {
+    pub(super) left: u64,
+    pub(super) bytes: Vec<u8>,
 }
 
 impl Write for BrokenWriter {
@@ -73,9 +74,11 @@ impl Write for BrokenWriter {
 #[test]
 fn usage(rt: HostRuntime) -> Result<(), Fail> {
     let alloc = rt.alloc();
-    let lists: [&[&str]; 6] = [
+    let lists: [&[&str]; 8] = [
         &[],
-        &["threads"],
+        &["Threads"],
+        &["threads", "replay"],
+        &["threads", ""],
         &["replay", "replay"],
         &["Replay"],
         &[""],
@@ -181,6 +184,7 @@ fn broken_output(rt: HostRuntime) -> Result<(), Fail> {
         let mut errors: Vec<u8> = Vec::new(alloc);
         let status = main_with(
             &rt,
+            &NoThreads,
             words.as_slice(),
             &mut input.as_bytes(),
             &mut output,
@@ -211,6 +215,7 @@ fn broken_errors(rt: HostRuntime) -> Result<(), Fail> {
     };
     let status = main_with(
         &rt,
+        &NoThreads,
         words.as_slice(),
         &mut b"1.5".as_slice(),
         &mut output,
