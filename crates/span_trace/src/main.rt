@@ -2,6 +2,7 @@
 //! files.
 #![tactic(auto)]
 
+mod answer;
 mod command;
 mod fault;
 mod lanes;

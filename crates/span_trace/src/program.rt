@@ -3,6 +3,7 @@
 ghost use Rattle.std.specs.Prelude.{◌≡◌, ◌≤◌, ◌⊎◌, None, map, string_bytes};
 ghost use Rattle.span_trace.specs.Arguments.{command_of};
 
+use crate::answer::Answer;
 use crate::command::{Command, command_of};
 use crate::fault::Stop;
 use crate::lines::{PrintFault, write_files, write_replies};
@@ -17,14 +18,6 @@ use span_tracing::{AnySink, EitherFolder, NoLive, Reply, RoutedSinks};
 use std::alloc::Global;
 use std::io::{Read, Write};
 use std::rt::Files;
-
-/// What a command leaves to be written.
-trait Answer: Drop {
-    /// Whether a step was refused.
-    fn has_refusal(&self) -> bool;
-
-    fn write<W: Write>(&self, alloc: Global, output: &mut W) -> Result<(), PrintFault>;
-}
 
 /// A trace whose steps have run, with the replies.
 #[derive(Drop)]
@@ -50,16 +43,6 @@ impl<X: Files + AllocGlobal + Clone + Drop> Answer for Replayed<X> {
             }
         }
         Ok(())
-    }
-}
-
-impl Answer for LanesAnswer {
-    fn has_refusal(&self) -> bool {
-        self.has_refusal()
-    }
-
-    fn write<W: Write>(&self, alloc: Global, output: &mut W) -> Result<(), PrintFault> {
-        self.write(alloc, output)
     }
 }
 
@@ -164,8 +147,8 @@ fn ended<A: Answer, W: Write, E: Write>(
 /// call was refused. 3: a folder refused a setup call. 4: there was no memory outside a step, or no thread for a sink. 5: the output
 /// refused a write.
 ///
-/// The output has a line for each step, or for threads one with their number, and then one for each file. With 2 and 3 nothing is written to
-/// it.
+/// The output has a line for each step, or for threads one with their number, and then one for each file. With 2 and 3 nothing is
+/// written to it.
 pub fn main_with<X: Files + AllocGlobal + Clone + Drop, T: RunsLanes, R: Read, W: Write, E: Write>(
     rt: &X,
     threads: &T,

@@ -1,6 +1,7 @@
 //! Scripts whose lanes run in threads.
 ghost use Rattle.std.specs.Prelude.{◌≡◌};
 
+use crate::answer::Answer;
 use crate::fault::Stop;
 use crate::lanes::{Taken, run_lanes};
 use crate::lines::{PrintFault, write_files, write_journal};
@@ -23,21 +24,20 @@ pub(crate) struct NamedFolder {
     folder: MemoryFolder,
 }
 
-/// What is left of a script whose lanes have run.
+/// What is left of a script whose lanes have run. A refused step may be one of a lane or of none.
 #[derive(Drop)]
 pub struct LanesAnswer {
     taken: Taken,
     folders: Vec<NamedFolder>,
 }
 
-impl LanesAnswer {
-    /// Whether a step was refused, of a lane or of none.
-    pub(crate) fn has_refusal(&self) -> bool {
+impl Answer for LanesAnswer {
+    fn has_refusal(&self) -> bool {
         self.taken.has_refusal
     }
 
     /// Writes how many steps the lanes took, and then the files in memory.
-    pub(crate) fn write<W: Write>(&self, alloc: Global, output: &mut W) -> Result<(), PrintFault> {
+    fn write<W: Write>(&self, alloc: Global, output: &mut W) -> Result<(), PrintFault> {
         write_journal(alloc, self.taken.steps, output)?;
         for named in &self.folders {
             write_files(alloc, named.name.as_str(), &named.folder, output)?;
@@ -48,8 +48,8 @@ impl LanesAnswer {
 
 /// Runs scripts whose lanes have threads of their own.
 pub trait RunsLanes {
-    /// Makes the setup calls of a script, runs its steps that have no lane, and then those of each lane in a thread of its own. Each sink is
-    /// live: a thread writes its lines.
+    /// Makes the setup calls of a script, runs its steps that have no lane, and then those of each lane in a thread of its own. Each
+    /// sink is live: a thread writes its lines.
     ///
     /// # Errors
     ///
