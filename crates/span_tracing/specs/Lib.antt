@@ -1,4 +1,3 @@
-pub mod Setup
 pub mod DailyOutputs
 pub mod CarriedSteps
 pub mod SpanMoments
@@ -10,6 +9,7 @@ pub mod Calls
 pub mod OutputIndependence
 pub mod Levels
 pub mod Sites
+pub mod Setup
 pub use Rattle.span_tracing_skeleton.specs.Acting
 pub use Rattle.span_tracing_skeleton.specs.Counting
 pub use Rattle.span_tracing_skeleton.specs.Looking

@@ -3,7 +3,7 @@ ghost use Rattle.std.specs.Prelude.{List};
 ghost use Rattle.tracing_core_fields.specs.requests.Lists.{Every};
 ghost use Rattle.span_tracing.specs.OutputIndependence.{OutputsGoAlone};
 ghost use Rattle.span_tracing.specs.Levels.{LevelsAnswer};
-ghost use Rattle.span_tracing.specs.Setup.{StartsReady};
+ghost use Rattle.span_tracing.specs.Setup.{SitesStayReady, StartsReady};
 ghost use Rattle.span_registry_layers_layers.specs.declared.filtered.Filtered.{Filtered};
 ghost use Rattle.span_registry_layers.specs.declared.output.Output.{Output};
 ghost use Rattle.span_tracing_outputs.specs.declared.files.output_spec.OutputSpec.{OutputSpec};
@@ -11,14 +11,15 @@ ghost use Rattle.span_tracing_outputs.specs.declared.files.output_spec.OutputSpe
 use event_formatter::FormatEvent;
 use event_formatter_text::FormatFields;
 use span_registry_layers_layers::{Filter, Layer};
+use span_tracing_laws::setup_follows;
 pub use span_tracing_laws::{
     calls_may_change_places, faults_stay_apart, files_stay_harmless, formats_write_harmless_lines,
     harmless_formats_fill_files, harmless_outputs_fill_files, harmless_outputs_run,
     harmless_runs_fill_files, isolated, kept_texts_are_harmless, nothing_is_starved,
     outputs_stay_harmless, queues_count_exactly, timers_are_harmless, work_may_be_cut,
 };
-use span_tracing_outputs::PendingLines;
-use tracing_core_fields::LevelFilter;
+use span_tracing_outputs::{LineSink, PendingLines, TraceStack};
+use tracing_core_fields::{LevelFilter, Subscriber};
 
 /// Levels are honest filters, in outputs with any layers. So a new stack of them is right in what it keeps of their answers
 /// (`Stack::new`).
@@ -41,6 +42,14 @@ pub fn leveled_outputs_are_honest<D, Q>()
 pub fn traces_start_ready<N: FormatFields + Drop, E: FormatEvent, F: Filter, S>()
     ensures { StartsReady ⟦<F as Filter>⟧ ⟦<event_formatter::Layer<N, E, PendingLines> as Layer>⟧ S }
 {}
+
+/// A trace that is ready stays so where a [`Site`](crate::Site) is registered, and where that is refused.
+pub fn sites_stay_ready<N: FormatFields + Drop, E: FormatEvent, F: Filter, S: LineSink>()
+    ensures { SitesStayReady ⟦<F as Filter>⟧ ⟦<event_formatter::Layer<N, E, PendingLines> as Layer>⟧
+        ⟦<TraceStack<N, E, F, S> as Subscriber>⟧ }
+{
+    setup_follows::<N, E, F, S>();
+}
 
 /// Each output goes its own way: two runs of the same steps, in which all filters answer the same, leave an output's machine the
 /// same, and it offers the same lines to its sink, whatever the other outputs' formats and kept texts are, also those of other stacks,

@@ -8,5 +8,6 @@ pub mod MetSinks
 pub mod OwnViews
 pub mod OwnSteps
 pub mod OwnRuns
+pub mod Unreplied
 pub mod IsolatedRuns
 pub mod FaultyFolders

@@ -25,11 +25,12 @@ use tracing_appender_rolling::{Folder, files_go_by_tries, lines_have_one_end};
 /// neither list.
 ///
 /// So take two runs, of one trace or of two, on any road and by any steps, and an output in each, wherever it stands. Let the machines be
-/// equal before, and the routes, and the spans as the outputs know them; and let what is asked be equal, where each filter says of a new
-/// span what one function says of all that came before. Then the machines are equal afterwards, and the same lines are offered. Sinks of
-/// the same number end alike, if they began so: direct ones that dropped no line, and queued ones at which no line found no memory. They
-/// are alike where their files have the same names, and their folders the same known contents, with the same calls to come refused or
-/// cut short; and the queues hold and have counted the same.
+/// equal before, and the routes, and the spans as the outputs know them. Let what is asked be equal, where each filter says of a new span
+/// what one function says of all that came before; what the queues answer may differ, but no call on one may find no memory. Then the
+/// machines are equal afterwards, and the same lines are offered. Sinks of the same number end alike, if they began so: direct ones that
+/// dropped no line, and queued ones at which no line found no memory; and such queues gave the same answers. Sinks are alike where their
+/// files have the same names, and their folders the same known contents, with the same calls to come refused or cut short; and the queues
+/// hold and have counted the same.
 pub fn isolated<N: FormatFields + Drop, E: FormatEvent, F: Filter, D: Folder, Q: LiveQueue>()
     ensures { Isolated D.contents D.failed ⟦<N as FormatFields>⟧ E.line_of ⟦<F as Filter>⟧
         ⟦<Layer<N, E, PendingLines> as span_registry_layers_layers::Layer>⟧ Q.settles }
@@ -49,11 +50,11 @@ pub fn isolated<N: FormatFields + Drop, E: FormatEvent, F: Filter, D: Folder, Q:
 /// took stands in the file of the last try that had succeeded by then, and nothing else stands in a file behind the bytes that it had at
 /// the opening, whether it stands or was removed. No line may have found no memory, and each moment has to be in range.
 ///
-/// Two runs from one skeleton are answered alike where they are alike: the same steps, with the same answers of filters and queues, of
-/// which the same found no memory, and the same had to wait for a held line. Then the same comes to each output of both. So an output
-/// whose machine and route are the same in both ends alike, and each of its sinks does that began alike, as in [`isolated`]: a fault of
-/// another sink's folder changes none of its files. What a queue answers, and what waits in it, doesn't depend on its folder, where each
-/// line finds memory there.
+/// Two runs from one skeleton are answered alike where they are alike, but for what queues answer: the same steps and the same calls on
+/// queues, with the same answers of filters, of which the same found no memory, and the same had to wait for a held line. Then the same
+/// comes to each output of both. So an output whose machine and route are the same in both ends alike, and each of its sinks does that
+/// began alike, and its queue answers the same, as in [`isolated`]: a fault of another sink's folder changes none of its files. What a
+/// queue answers, and what waits in it, doesn't depend on its folder, where each line finds memory there.
 pub fn faults_stay_apart<
     N: FormatFields + Drop,
     E: FormatEvent,

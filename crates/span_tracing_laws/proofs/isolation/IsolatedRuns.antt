@@ -1,5 +1,5 @@
 -- An output in two runs.
-use Rattle.std.proofs.Common.{◌≡◌, ◌∙◌, ℕ, List, [], ◌∷◌, ◌++◌, Option, refl, sym, ap, subst}
+use Rattle.std.proofs.Common.{◌≡◌, ◌∙◌, ℕ, List, [], ◌∷◌, ◌++◌, map, Option, refl, sym, ap, subst}
 use Rattle.std.specs.Option.{option_map}
 use Rattle.std.proofs.lemmas.Option.{slice_get-map}
 use Rattle.tracing_core_fields.specs.requests.PlainRequests.{PlainEvent}
@@ -35,23 +35,21 @@ use Rattle.span_tracing_steps.specs.States.{stack_in}
 use Rattle.span_tracing_laws.specs.isolation.IsolatedOutputs.{AskedAlike, BeginAlike, DirectOf, EndAlike, FollowsItsOwn}
 use Rattle.span_tracing_laws.specs.isolation.IsolatedOutputs.{Isolated}
 use Rattle.span_tracing_laws.specs.isolation.IsolatedOutputs.{OneRun, QueuedOf, asked, spans_of}
-use Rattle.span_tracing_laws.specs.isolation.IsolatedOutputs.{brought, turns_in}
-use Rattle.span_tracing_laws.specs.isolation.OwnRequests.{own_brings}
-use Rattle.span_tracing_laws.specs.isolation.OutputTurns.{came_some, comings, machine_lines, machine_run, machine_sends}
+use Rattle.span_tracing_laws.specs.isolation.FaultyFolders.{AllComeAlike}
+use Rattle.span_tracing_laws.specs.isolation.IsolatedOutputs.{brought, sent, turns_in}
+use Rattle.span_tracing_laws.specs.isolation.OwnRequests.{own_brings, seen}
+use Rattle.span_tracing_laws.specs.isolation.OutputTurns.{OutputTurn, comings, machine_lines, machine_run, machine_sends, unreplied}
 use Rattle.span_tracing_laws.specs.runs.Files.{sink_turns, stack_sinks}
 use Rattle.span_tracing_laws.specs.starved.StarvedCounts.{NothingIsStarved, run_fated}
 use Rattle.span_tracing_laws.proofs.isolation.Appenders.{direct_alike}
+use Rattle.span_tracing_laws.proofs.isolation.QueueAnswers.{queues_answer}
 use Rattle.span_tracing_laws.proofs.isolation.Queues.{comings_met, queues_alike}
+use Rattle.span_tracing_laws.proofs.isolation.Unreplied.{brings_seen, came_lines, came_unreplied, lines_unreplied, run_unreplied, sends_come}
 use Rattle.span_tracing_laws.proofs.isolation.MetSinks.{met_its, some_same}
 use Rattle.span_tracing_laws.proofs.isolation.OwnRuns.{asked_same, run_is}
 use Rattle.span_tracing_laws.proofs.isolation.OwnSteps.{known_first}
 use Rattle.span_tracing_laws.proofs.isolation.Folds.{RunFolds, run_folds}
 use Rattle.span_tracing_laws.proofs.starved.WholeFates.{all_stay}
-
--- the lines that come to a sink, whether or not the turns without one are left out
-came_lines : (lines : List (At × PlainLine)) (later : List SinkTurn) → came_in (came_some lines later) ≡ lines ++ came_in later
-came_lines [] later = refl
-came_lines (line ∷ lines) later = refl
 
 came_same : (ts : List SinkTurn) → came_in (comings ts) ≡ came_in ts
 came_same [] = refl
@@ -113,38 +111,71 @@ module _ {N E F D Q : Type 0} (contents : D → Option Contents) (failed : D →
       subst (λ (us : List SinkTurn). QueueMeetsAll contents failed us old new) ((follows r).sends number)
       (comings_met contents failed drops steps_end ts old new (subst (QueueMeetsAll contents failed ts old) same goes))
 
-  -- what comes to a sink with the same number is the same
-  sends_alike : (one other : Run) → BeginAlike contents failed n line_of g h settles one other → (number : ℕ) →
-      machine_sends n other.sinks.route number other.out.out (brought contents failed n line_of g h settles other) ≡
-      machine_sends n one.sinks.route number one.out.out (brought contents failed n line_of g h settles one)
-  sends_alike one other begin number =
+  -- what comes to outputs that end alike
+  record ComesAlike (one other : Run) : Type 0 where
+    pub machine : machine_run n other.out.out (brought contents failed n line_of g h settles other) ≡
+        machine_run n one.out.out (brought contents failed n line_of g h settles one)
+    pub lines : machine_lines n other.out.out (brought contents failed n line_of g h settles other) ≡
+        machine_lines n one.out.out (brought contents failed n line_of g h settles one)
+    pub came : (number : ℕ) → came_in (sent contents failed n line_of g h settles other number) ≡
+        came_in (sent contents failed n line_of g h settles one number)
+    pub answers : (number : ℕ) (old new its same : QueuedSink D) → QueuedOf contents failed n line_of g h settles one number old new →
+        QueuedOf contents failed n line_of g h settles other number its same → its.waiting ≡ old.waiting →
+        sent contents failed n line_of g h settles other number ≡ sent contents failed n line_of g h settles one number
+
+  end_alike : (one other : Run) → ComesAlike one other → EndAlike contents failed n line_of g h settles one other
+  end_alike one other come = record {
+    machine = come.machine;
+    lines = come.lines;
+    direct = λ number old new its same mine yours begun.
+        direct_alike contents failed one_end writes exact
+        (came_in (sent contents failed n line_of g h settles one number)) old new its same
+        (taken_by one number old new mine)
+        (subst (λ (ls : List (At × PlainLine)). TakesRun (TakesLine contents failed) ls its same) (come.came number)
+        (taken_by other number its same yours))
+        mine.none yours.none begun;
+    queued = λ number old new its same mine yours begun.
+        queues_alike contents failed drops steps_end
+        (sent contents failed n line_of g h settles one number) old new its same
+        (queued_by one number old new mine)
+        (subst (λ (ts : List SinkTurn). QueueMeetsAll contents failed ts its same)
+        (come.answers number old new its same mine yours begun.waiting) (queued_by other number its same yours))
+        mine.none.stayed mine.none.not_full yours.none.stayed yours.none.not_full begun;
+    answers = come.answers;
+  }
+
+  -- two outputs of one machine and one route
+  sends_so : (one other : Run) → BeginAlike contents failed n line_of g h settles one other → (number : ℕ) →
+      sent contents failed n line_of g h settles other number ≡
+      machine_sends n one.sinks.route number one.out.out (brought contents failed n line_of g h settles other)
+  sends_so one other begin number =
       let ys = brought contents failed n line_of g h settles other in
       ap (λ (r : Route). machine_sends n r number other.out.out ys) begin.route
       ∙ ap (λ (o : PlainOut N). machine_sends n one.sinks.route number o ys) begin.machine
-      ∙ ap (machine_sends n one.sinks.route number one.out.out) begin.brought
 
   alike : (one other : Run) → BeginAlike contents failed n line_of g h settles one other → EndAlike contents failed n line_of g h settles one other
   alike one other begin =
+      let o = one.out.out in
       let xs = brought contents failed n line_of g h settles one in
       let ys = brought contents failed n line_of g h settles other in
-      record {
-        machine = ap (λ (o : PlainOut N). machine_run n o ys) begin.machine ∙ ap (machine_run n one.out.out) begin.brought;
-        lines = ap (λ (o : PlainOut N). machine_lines n o ys) begin.machine ∙ ap (machine_lines n one.out.out) begin.brought;
-        direct = λ number old new its same mine yours begun.
-            direct_alike contents failed one_end writes exact
-            (came_in (machine_sends n one.sinks.route number one.out.out xs)) old new its same
-            (taken_by one number old new mine)
-            (subst (λ (ts : List SinkTurn). TakesRun (TakesLine contents failed) (came_in ts) its same) (sends_alike one other begin number)
-            (taken_by other number its same yours))
-            mine.none yours.none begun;
-        queued = λ number old new its same mine yours begun.
-            queues_alike contents failed drops steps_end
-            (machine_sends n one.sinks.route number one.out.out xs) old new its same
-            (queued_by one number old new mine)
-            (subst (λ (ts : List SinkTurn). QueueMeetsAll contents failed ts its same) (sends_alike one other begin number)
-            (queued_by other number its same yours))
-            mine.none.stayed mine.none.not_full yours.none.stayed yours.none.not_full begun;
-      }
+      let same = begin.brought in
+      end_alike one other (record {
+        machine = ap (λ (p : PlainOut N). machine_run n p ys) begin.machine ∙ sym (run_unreplied n o ys)
+            ∙ ap (machine_run n o) same ∙ run_unreplied n o xs;
+        lines = ap (λ (p : PlainOut N). machine_lines n p ys) begin.machine ∙ sym (lines_unreplied n o ys)
+            ∙ ap (machine_lines n o) same ∙ lines_unreplied n o xs;
+        came = λ number. ap came_in (sends_so one other begin number)
+            ∙ sym (came_unreplied n one.sinks.route number o ys)
+            ∙ ap (λ (ts : List OutputTurn). came_in (machine_sends n one.sinks.route number o ts)) same
+            ∙ came_unreplied n one.sinks.route number o xs;
+        answers = λ number old new its same_too mine yours waits.
+            (queues_answer contents failed drops (sent contents failed n line_of g h settles one number)
+            (sent contents failed n line_of g h settles other number) old new its same_too
+            (subst (AllComeAlike (sent contents failed n line_of g h settles one number)) (sym (sends_so one other begin number))
+            (sends_come n one.sinks.route number o xs ys same begin.one_finds begin.other_finds))
+            (queued_by one number old new mine) (queued_by other number its same_too yours)
+            mine.none.stayed mine.none.not_full yours.none.stayed yours.none.not_full waits).0;
+      })
 
   told : (r : Run) → IsCounted r.plain.skeleton →
       brought contents failed n line_of g h settles r ≡
@@ -156,16 +187,23 @@ module _ {N E F D Q : Type 0} (contents : D → Option Contents) (failed : D →
       ∙ ap (option_map (λ (o : Numbered N). o.number)) r.output.machine)
 
   asked_alike : (one other : Run) → AskedAlike contents failed n line_of g h settles one other → BeginAlike contents failed n line_of g h settles one other
-  asked_alike one other begin = record {
-    machine = begin.machine;
-    route = begin.route;
-    brought = told other begin.also
-        ∙ ap (λ (x : RegistryValue). own_brings x (asked contents failed n line_of g h settles other)) begin.spans
-        ∙ ap (own_brings (spans_of contents failed n line_of g h settles one))
-        (asked_same begin.says [] (asked contents failed n line_of g h settles other) (asked contents failed n line_of g h settles one) begin.requests
-        begin.other_says begin.one_says)
-        ∙ sym (told one begin.counted);
-  }
+  asked_alike one other begin =
+      let mine = asked contents failed n line_of g h settles one in
+      let yours = asked contents failed n line_of g h settles other in
+      let spans = spans_of contents failed n line_of g h settles one in
+      let its_spans = spans_of contents failed n line_of g h settles other in
+      record {
+        machine = begin.machine;
+        route = begin.route;
+        brought = ap (map unreplied) (told other begin.also)
+            ∙ brings_seen its_spans yours
+            ∙ ap (λ (x : RegistryValue). own_brings x (map seen yours)) begin.spans
+            ∙ ap (own_brings spans) (asked_same begin.says [] yours mine begin.requests begin.other_says begin.one_says)
+            ∙ sym (brings_seen spans mine)
+            ∙ sym (ap (map unreplied) (told one begin.counted));
+        one_finds = begin.one_finds;
+        other_finds = begin.other_finds;
+      }
 
   pub isolated : Isolated contents failed n line_of g h settles
   isolated = record { follows = follows; told = told; alike = alike; asked_alike = asked_alike }

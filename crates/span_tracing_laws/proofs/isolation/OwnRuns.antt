@@ -29,7 +29,7 @@ use Rattle.span_tracing_laws.specs.isolation.OutputTurns.{filter_numbers}
 use Rattle.span_tracing_laws.specs.isolation.OutputTurns.{OutputTurn, calls_by, changes_by, hears_by, run_brings}
 use Rattle.span_tracing_laws.specs.isolation.OwnRequests.{Asks, CloseMade, Comes, EntryMade, EventMade, ExitMade, HandleMade, OwnRequest}
 use Rattle.span_tracing_laws.specs.isolation.OwnRequests.{OwnTurn}
-use Rattle.span_tracing_laws.specs.isolation.OwnRequests.{SaysBy, SaysOne, SpanMade, ValuesMade, unanswered}
+use Rattle.span_tracing_laws.specs.isolation.OwnRequests.{SaysBy, SaysOne, SpanMade, ValuesMade, seen, unanswered}
 use Rattle.span_tracing_laws.specs.isolation.OwnRequests.{asked_by, asked_of, asks_if, call_asks, event_asks, is_told}
 use Rattle.span_tracing_laws.specs.isolation.OwnRequests.{own_after, own_brings, own_hears, record_asks, run_asks, span_asks}
 use Rattle.span_tracing_laws.specs.isolation.OwnRequests.{values_ask}
@@ -161,7 +161,7 @@ comes_then x (c ∷ cs) ts = ap (λ (xs : List OutputTurn). c ∷ xs) (comes_the
 
 -- a turn, and a list of turns, by what the filter says of spans
 turn_same : (says : List OwnTurn → At → PlainAttributes → Bool) (before : List OwnTurn) (t u : OwnTurn) → unanswered t ≡ unanswered u →
-    SaysOne says before t → SaysOne says before u → t ≡ u
+    SaysOne says before t → SaysOne says before u → seen t ≡ seen u
 turn_same says before (Asks (SpanMade at a passed)) (Asks (SpanMade at_too b also)) same said too =
     let one : at ≡ at_too = cc in
     let two : a ≡ b = cc in
@@ -173,16 +173,16 @@ turn_same says before t (Asks (SpanMade at a passed)) same said too = absurd (cc
 turn_same says before t u same said too = same
 
 pub asked_same : (says : List OwnTurn → At → PlainAttributes → Bool) (before ts us : List OwnTurn) → map unanswered ts ≡ map unanswered us →
-    SaysBy says before ts → SaysBy says before us → ts ≡ us
+    SaysBy says before ts → SaysBy says before us → map seen ts ≡ map seen us
 asked_same says before [] [] same said too = refl
 asked_same says before [] (u ∷ us) same said too = absurd (cc)
 asked_same says before (t ∷ ts) [] same said too = absurd (cc)
 asked_same says before (t ∷ ts) (u ∷ us) same said too =
-    let first : t ≡ u = turn_same says before t u (cc) said.0 too.0 in
+    let first : seen t ≡ seen u = turn_same says before t u (cc) said.0 too.0 in
     let rest : map unanswered ts ≡ map unanswered us = cc in
-    let later = asked_same says (before ++ u ∷ []) ts us rest
+    let later = asked_same says (before ++ seen u ∷ []) ts us rest
     (subst (λ (x : OwnTurn). SaysBy says (before ++ x ∷ []) ts) first said.1) too.1 in
-    ap (λ (x : OwnTurn). x ∷ ts) first ∙ ap (λ (xs : List OwnTurn). u ∷ xs) later
+    ap (λ (x : OwnTurn). x ∷ map seen ts) first ∙ ap (λ (xs : List OwnTurn). seen u ∷ xs) later
 
 module _ {N S : Type 0} (n : Ghosts N) (sinks : List (Routed S)) (stack place number : ℕ) (counted : StaysCounted) where
   abbrev Numbers : List (Numbered N) → Type 0

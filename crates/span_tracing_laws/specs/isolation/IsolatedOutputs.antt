@@ -1,5 +1,6 @@
 -- Two runs, and an output in each of them: where what comes to it is the same in both, so is what becomes of it.
 use Rattle.std.specs.Prelude.{◌≡◌, ◌<◌, ℕ, Bool, List, [], map, Option, Some, slice_get}
+use Rattle.std.specs.List.{AllByRecursion}
 use Rattle.tracing_core_fields.specs.requests.PlainRequests.{PlainAttributes, PlainEvent}
 use Rattle.tracing_core_moments.specs.declared.at.At.{At}
 use Rattle.tracing_appender_queue.specs.declared.queued.fate.Fate.{Fate}
@@ -20,6 +21,7 @@ use Rattle.span_tracing_outputs.specs.Turns.{Lines}
 use Rattle.span_tracing_outputs.specs.sinks.Fates.{NoneDropped}
 use Rattle.span_tracing_outputs.specs.sinks.QueueFiles.{NoneMissed}
 use Rattle.span_tracing_outputs.specs.sinks.Routed.{Routed}
+use Rattle.span_tracing_outputs.specs.sinks.SinkTurns.{SinkTurn}
 use Rattle.span_tracing_outputs.specs.declared.sinks.any_sink.AnySink.{AnySink}
 use Rattle.span_tracing_outputs.specs.declared.sinks.any_sink.AnySink.TheVariants.{Direct, Queued}
 use Rattle.span_tracing_outputs.specs.declared.sinks.sink.RollingSink.{RollingSink}
@@ -29,7 +31,8 @@ use Rattle.span_tracing_skeleton.specs.PlainData.{AnyStep}
 use Rattle.span_tracing_skeleton.specs.declared.call.Reply.{Reply}
 use Rattle.span_tracing_steps.specs.States.{stack_in}
 use Rattle.span_tracing_laws.specs.isolation.OwnRequests.{OwnTurn, SaysBy, own_brings, own_registry, run_asks, unanswered}
-use Rattle.span_tracing_laws.specs.isolation.OutputTurns.{OutputTurn, comings, machine_lines, machine_run, machine_sends, run_brings}
+use Rattle.span_tracing_laws.specs.isolation.OutputTurns.{FindsMemory, OutputTurn, comings, machine_lines, machine_run, machine_sends}
+use Rattle.span_tracing_laws.specs.isolation.OutputTurns.{run_brings, unreplied}
 use Rattle.span_tracing_laws.specs.runs.Files.{FileTrace, RunsToFiles, routed_at, sink_turns, stack_sinks}
 use Rattle.span_tracing_laws.specs.runs.Runs.{AgreesPlain, Plain, Road, StepWithMask, lines_of, plain_run}
 use Rattle.span_tracing_laws.specs.runs.StepFollows.{Traced}
@@ -90,6 +93,10 @@ module _ {N E F D Q : Type 0} (contents : D → Option Contents) (failed : D →
   abbrev pub brought : OneRun → List OutputTurn
   brought r = run_brings n (stack_sinks (stack_in r.before r.stack)) r.plain (turns_in r) r.stack r.place
 
+  -- and to its sink with a number
+  abbrev pub sent : OneRun → ℕ → List SinkTurn
+  sent r number = machine_sends n r.sinks.route number r.out.out (brought r)
+
   -- What becomes of an output in a run is settled by how it began and by what comes to it: its machine, the lines that it offers, and what
   -- comes to each of its sinks.
   pub record FollowsItsOwn (r : OneRun) : Type 0 where
@@ -97,8 +104,7 @@ module _ {N E F D Q : Type 0} (contents : D → Option Contents) (failed : D →
     pub machine : slice_get ((plain_run n r.plain (turns_in r)).outs r.stack) r.place ≡
         Some (record r.out { out = machine_run n r.out.out (brought r) })
     pub lines : slice_get (lines_of n r.plain (turns_in r) r.stack) r.place ≡ Some (machine_lines n r.out.out (brought r))
-    pub sends : (number : ℕ) → comings (sink_turns n r.before r.plain (turns_in r) r.stack r.place number r.sinks.route) ≡
-        machine_sends n r.sinks.route number r.out.out (brought r)
+    pub sends : (number : ℕ) → comings (sink_turns n r.before r.plain (turns_in r) r.stack r.place number r.sinks.route) ≡ sent r number
 
   -- the sink with a number of the output, before the run and after it
   pub record SinkOf (r : OneRun) (number : ℕ) (old new : AnySink D Q) : Type 0 where
@@ -125,15 +131,18 @@ module _ {N E F D Q : Type 0} (contents : D → Option Contents) (failed : D →
   abbrev pub spans_of : OneRun → RegistryValue
   spans_of r = own_registry r.out.number (registry_at r.plain.skeleton r.stack)
 
-  -- the outputs of two runs begin alike: the machines and the routes are equal, and so is what comes to them
+  -- The outputs of two runs begin alike: the machines and the routes are equal, and so is what comes to them, but for what queues answer. No
+  -- call on a queue finds no memory.
   pub record BeginAlike (one other : OneRun) : Type 0 where
     pub machine : other.out.out ≡ one.out.out
     pub route : other.sinks.route ≡ one.sinks.route
-    pub brought : brought other ≡ brought one
+    pub brought : map unreplied (brought other) ≡ map unreplied (brought one)
+    pub one_finds : AllByRecursion FindsMemory (brought one)
+    pub other_finds : AllByRecursion FindsMemory (brought other)
 
   -- The same, by what is asked of their stacks: the spans are equal as the outputs know them, and so is the one list of requests, of
-  -- settings, and of calls on queues, but for what the outputs' filters say of new spans. Of these both say the same of the same, by
-  -- what came before. Each stack is held by as many as it counts, as in every trace.
+  -- settings, and of calls on queues, but for what the outputs' filters say of new spans, and for what the queues answer. Of new spans both
+  -- filters say the same of the same, by what came before. Each stack is held by as many as it counts, as in every trace.
   pub record AskedAlike (one other : OneRun) : Type 0 where
     pub machine : other.out.out ≡ one.out.out
     pub route : other.sinks.route ≡ one.sinks.route
@@ -142,6 +151,8 @@ module _ {N E F D Q : Type 0} (contents : D → Option Contents) (failed : D →
     pub says : List OwnTurn → At → PlainAttributes → Bool
     pub one_says : SaysBy says [] (asked one)
     pub other_says : SaysBy says [] (asked other)
+    pub one_finds : AllByRecursion FindsMemory (brought one)
+    pub other_finds : AllByRecursion FindsMemory (brought other)
     pub counted : IsCounted one.plain.skeleton
     pub also : IsCounted other.plain.skeleton
 
@@ -153,6 +164,9 @@ module _ {N E F D Q : Type 0} (contents : D → Option Contents) (failed : D →
         AppendersAlike contents old.appender its.appender → AppendersAlike contents new.appender same.appender
     pub queued : (number : ℕ) (old new its same : QueuedSink D) → QueuedOf one number old new → QueuedOf other number its same →
         QueuesAlike contents old its → QueuesAlike contents new same
+    -- queues in which the same waits get the same lines and calls, and give the same answers
+    pub answers : (number : ℕ) (old new its same : QueuedSink D) → QueuedOf one number old new → QueuedOf other number its same →
+        its.waiting ≡ old.waiting → sent other number ≡ sent one number
 
   pub record Isolated : Type 0 where
     -- of one run

@@ -1,5 +1,5 @@
 -- What comes to one output in a run, as one list, and what the output makes of it. The list names nothing of another output.
-use Rattle.std.specs.Prelude.{◌==◌, ℕ, Bool, true, false, if◌then◌else◌, List, [], ◌∷◌, ◌++◌, map, Option, Some, None}
+use Rattle.std.specs.Prelude.{◌≡◌, ◌==◌, ℕ, Bool, true, false, if◌then◌else◌, List, [], ◌∷◌, ◌++◌, map, Option, Some, None}
 use Rattle.tracing_core_moments.specs.declared.at.At.{At}
 use Rattle.event_formatter_text.specs.declared.format_fields.FormatFields.{Ghosts}
 use Rattle.event_formatter_text.specs.declared.makers.route.Route.{Route}
@@ -15,7 +15,9 @@ use Rattle.span_tracing_outputs.specs.OutputMachines.{PlainLine}
 use Rattle.span_tracing_outputs.specs.declared.has_sinks.SinkPlace.{SinkPlace}
 use Rattle.span_tracing_skeleton.specs.Looking.{output_in}
 use Rattle.span_tracing_skeleton.specs.declared.call.Reply.{Reply}
+use Rattle.span_tracing_skeleton.specs.declared.call.Reply.TheVariants.{Done, Refused}
 use Rattle.span_tracing_skeleton.specs.declared.queue_call.QueueCall.{QueueCall}
+use Rattle.span_tracing_skeleton.specs.declared.refusal.Refusal.TheVariants.{OutOfMemory}
 use Rattle.span_tracing_skeleton.specs.declared.setting.OutputPlace.{OutputPlace}
 use Rattle.span_tracing_skeleton.specs.declared.setting.Setting.{Setting}
 use Rattle.span_tracing_laws.specs.runs.Runs.{Drove, Plain, Starved, StepWithMask, Waited, Went, plain_after}
@@ -29,6 +31,16 @@ pub data OutputTurn : Type 0 where
   Changes : Setting → OutputTurn
   Hears : At → List Heard → OutputTurn
   Calls : ℕ → QueueCall → Reply → OutputTurn
+
+-- a turn without what a queue answered
+abbrev pub unreplied : OutputTurn → OutputTurn
+unreplied (Calls sink call reply) = Calls sink call Done
+unreplied t = t
+
+-- a call on a queue found memory
+abbrev pub FindsMemory : OutputTurn → Type 0
+FindsMemory (Calls sink call reply) = reply ≡ Refused OutOfMemory → ⊥
+FindsMemory t = Unit {0}
 
 -- the numbers of outputs' filters
 abbrev pub filter_numbers : {N : Type 0} → List (Numbered N) → List ℕ

@@ -18,7 +18,7 @@ use Rattle.span_tracing_skeleton.specs.PlainData.{RecordStep, EnterStep, ExitSte
 use Rattle.span_tracing_skeleton.specs.Skeleton.{Skeleton, Answers, Heard as Answered, Passed}
 use Rattle.span_tracing_skeleton.specs.declared.call.SpanName.{SpanName}
 use Rattle.span_tracing_steps.specs.StackRequests.{own_values, place_at, request_of}
-use Rattle.span_tracing_laws.specs.isolation.OutputTurns.{OutputTurn, calls_by, changes_by, hears_some}
+use Rattle.span_tracing_laws.specs.isolation.OutputTurns.{OutputTurn, calls_by, changes_by, hears_some, unreplied}
 use Rattle.span_tracing_laws.specs.runs.Runs.{Drove, Plain, Starved, StepWithMask, Waited, Went, plain_after}
 use Rattle.span_tracing_laws.specs.runs.StepSettings.{setting_of}
 
@@ -141,10 +141,15 @@ module _ {N S : Type 0} (n : Ghosts N) (sinks : List (Routed S)) where
   run_asks p [] stack place number = []
   run_asks p (t ∷ ts) stack place number = turn_asks p t stack place number ++ run_asks (plain_after n p t) ts stack place number
 
--- a turn without what the output's filter said of a span
+-- a turn as a filter may see it: without what a queue answered
+abbrev pub seen : OwnTurn → OwnTurn
+seen (Asks r) = Asks r
+seen (Comes t) = Comes (unreplied t)
+
+-- and without what the output's filter said of a span
 abbrev pub unanswered : OwnTurn → OwnTurn
 unanswered (Asks (SpanMade at a passed)) = Asks (SpanMade at a false)
-unanswered t = t
+unanswered t = seen t
 
 -- The filter says of each span what this function says of all that came before and of the request. So its answers, and what it keeps,
 -- come from what the output knows alone.
@@ -154,4 +159,4 @@ SaysOne says before t = Unit {0}
 
 abbrev pub SaysBy : (List OwnTurn → At → PlainAttributes → Bool) → List OwnTurn → List OwnTurn → Type 0
 SaysBy says before [] = Unit {0}
-SaysBy says before (t ∷ ts) = SaysOne says before t × SaysBy says (before ++ t ∷ []) ts
+SaysBy says before (t ∷ ts) = SaysOne says before t × SaysBy says (before ++ seen t ∷ []) ts
