@@ -58,7 +58,8 @@ def parted(output, texts):
     place = lambda line: next((at for at, it in enumerate(texts) if it in line), len(texts))
     lines = [json.loads(it) for it in output.splitlines()]
     for it in lines:
-        it.update(text="".join(sorted(it["text"].splitlines(True), key=place)) if "text" in it else "")
+        if isinstance(it, dict) and "text" in it:
+            it["text"] = "".join(sorted(it["text"].splitlines(True), key=place))
     return json.dumps(lines).encode()
 
 

@@ -1,5 +1,5 @@
 //! Sinks whose lines threads write.
-ghost use Rattle.std.specs.Prelude.{◌≡◌, IfOk};
+ghost use Rattle.std.specs.Prelude.{◌≡◌, IfOk, IfSome, None, true};
 ghost use Rattle.span_tracing.specs.TraceFollows.{IsReady};
 
 use crate::fault::Fault;
@@ -179,7 +179,10 @@ impl<'a, O, R: AllocGlobal + Threads + Wait + Copy + Send + Drop + 'static> Star
 }
 
 /// How a queue and its worker are to be. Where the line says nothing of the queue it is as long and as lossy as usual.
-fn threads_of(queue: Option<QueueLine>) -> NonBlockingBuilder<'static> {
+fn threads_of(queue: Option<QueueLine>) -> NonBlockingBuilder<'static>
+    ensures usual { queue ≡ None → (result.limit ≡ 128000) × (result.lossy ≡ true) }
+    ensures asked { IfSome queue (λ line. (result.limit ≡ line.limit) × (result.lossy ≡ line.lossy)) }
+{
     let usual = NonBlockingBuilder::default();
     match queue {
         None => usual,
