@@ -280,7 +280,7 @@ module _ {N E F D Q : Type 0} (contents : D → Option Contents) (failed : D →
     others = λ one other same alike machine route finds also. alone.alike one other (record {
       machine = machine;
       route = route;
-      brought = brings_alike one other same alike;
+      brings = brings_alike one other same alike;
       one_finds = finds;
       other_finds = also;
     });

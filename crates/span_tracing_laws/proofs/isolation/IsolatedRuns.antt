@@ -158,7 +158,7 @@ module _ {N E F D Q : Type 0} (contents : D → Option Contents) (failed : D →
       let o = one.out.out in
       let xs = brought contents failed n line_of g h settles one in
       let ys = brought contents failed n line_of g h settles other in
-      let same = begin.brought in
+      let same = begin.brings in
       end_alike one other (record {
         machine = ap (λ (p : PlainOut N). machine_run n p ys) begin.machine ∙ sym (run_unreplied n o ys)
             ∙ ap (machine_run n o) same ∙ run_unreplied n o xs;
@@ -195,7 +195,7 @@ module _ {N E F D Q : Type 0} (contents : D → Option Contents) (failed : D →
       record {
         machine = begin.machine;
         route = begin.route;
-        brought = ap (map unreplied) (told other begin.also)
+        brings = ap (map unreplied) (told other begin.also)
             ∙ brings_seen its_spans yours
             ∙ ap (λ (x : RegistryValue). own_brings x (map seen yours)) begin.spans
             ∙ ap (own_brings spans) (asked_same begin.says [] yours mine begin.requests begin.other_says begin.one_says)

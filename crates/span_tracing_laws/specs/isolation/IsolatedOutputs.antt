@@ -136,7 +136,7 @@ module _ {N E F D Q : Type 0} (contents : D → Option Contents) (failed : D →
   pub record BeginAlike (one other : OneRun) : Type 0 where
     pub machine : other.out.out ≡ one.out.out
     pub route : other.sinks.route ≡ one.sinks.route
-    pub brought : map unreplied (brought other) ≡ map unreplied (brought one)
+    pub brings : map unreplied (brought other) ≡ map unreplied (brought one)
     pub one_finds : AllByRecursion FindsMemory (brought one)
     pub other_finds : AllByRecursion FindsMemory (brought other)
 
