@@ -1,6 +1,7 @@
 //! The program over memory.
 
 use crate::bench::Bench;
+use crate::counting::CountingFolder;
 use crate::program::main_with;
 use std::alloc::{AllocError, Global};
 use std::process::Abort;
@@ -30,7 +31,8 @@ fn run(rt: &HostRuntime, words: &[&str]) -> Result<Answer, Fail> {
     let words = words_of(alloc, words)?;
     let mut output = Vec::with_capacity(alloc, ROOM)?;
     let mut errors = Vec::with_capacity(alloc, ROOM)?;
-    let status = main_with(rt, words.as_slice(), &mut output, &mut errors);
+    let folder = CountingFolder::new(alloc);
+    let status = main_with(rt, words.as_slice(), folder, &mut output, &mut errors);
     Ok(Answer {
         status,
         output,
