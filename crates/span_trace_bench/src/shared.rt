@@ -1,5 +1,5 @@
 //! A trace that keeps a journal of its steps, and a lane with a seat at it.
-ghost use Rattle.std.specs.Prelude.{◌≡◌, ◌×◌, IfOk};
+ghost use Rattle.std.specs.Prelude.{◌≡◌, IfOk};
 ghost use Rattle.span_tracing.specs.StepFollows.{TraceIsReady};
 
 use crate::bench::Bench;
@@ -12,11 +12,12 @@ use crate::times::Times;
 use span_registry_layers::Filter;
 use span_tracing::laws::{leveled_outputs_are_honest, sites_stay_ready};
 use span_tracing::{
-    AnySink, CarriesOut, EventCall, FieldValue, Fields, Format, LineFormat, Lines, NewSpanCall,
-    NoLive, OwnedValue, Parent, Reply, RoutedSinks, Seat, Shared, Site, SpanCall, Step, Timer,
-    Trace, is_of_lane, open_trace,
+    AnySink, CarriesOut, EventCall, FieldValue, Fields, Folder, Format, LineFormat, Lines,
+    NewSpanCall, NoLive, OwnedValue, Parent, Reply, RoutedSinks, Seat, Shared, Site, SpanCall,
+    Step, Timer, Trace, is_of_lane, open_trace,
 };
 use std::alloc::Global;
+use std::marker::Brand;
 use std::rt::Clock;
 use std::sync::Wait;
 use std::sync::ledger::{Blank, Ledger};
@@ -27,25 +28,25 @@ type CountingTrace = Trace<LevelStack<CountingFolder, NoLive>>;
 
 /// A trace, with a callsite of spans and one of events.
 #[derive(Drop)]
-struct Opened {
-    trace: CountingTrace,
+struct Opened<T> {
+    trace: T,
     outer: Identifier,
     event: Identifier,
 }
 
-/// A trace over a folder that only counts.
-fn open(alloc: Global) -> Result<Opened, Fault>
+/// A trace over a folder, which is ready for its first step.
+fn open<D: Folder>(alloc: Global, folder: D) -> Result<Opened<Trace<LevelStack<D, NoLive>>>, Fault>
     ensures { IfOk result (λ opened. TraceIsReady ⟦<LevelFilter as Filter>⟧ ⟦<Lines as span_registry_layers::Layer>⟧ opened.trace) }
 {
-    leveled_outputs_are_honest::<CountingFolder, NoLive>();
+    leveled_outputs_are_honest::<D, NoLive>();
     sites_stay_ready::<
         Fields,
         Format<LineFormat, Timer>,
         LevelFilter,
-        RoutedSinks<AnySink<CountingFolder, NoLive>>,
+        RoutedSinks<AnySink<D, NoLive>>,
     >();
     let mut sinks = Vec::new(alloc);
-    sinks.push(sink_of(alloc, Bench::Shared, CountingFolder::new(alloc), "shared"))?;
+    sinks.push(sink_of(alloc, Bench::Shared, folder, "shared"))?;
     let outputs = outputs_of(alloc, Bench::Shared, sinks)?;
     let mut trace = open_trace(alloc, outputs, OPENED)?;
     let outer = Site::span(&mut trace, "app", "outer", Level::INFO, &OUTER_FIELDS)?;
@@ -100,14 +101,20 @@ fn set_number(step: &mut Step, i: u64) {
     }
 }
 
-impl<L: Ledger, T: CarriesOut> Desk<L, T> {
-    fn call<R: Wait>(&mut self, rt: &R, step: &Step) -> Result<Reply, Fault> {
-        if !is_of_lane(step, self.seat.lane()) {
-            return Err(Fault::OddReply);
-        }
-        Ok(self.shared.call(rt, &mut self.seat, step)?)
+/// One step by the seat's lane.
+fn call<L: Ledger, T: CarriesOut, R: Wait>(
+    rt: &R,
+    shared: &Shared<L, T>,
+    seat: &mut Seat<L>,
+    step: &Step,
+) -> Result<Reply, Fault> {
+    if !is_of_lane(step, seat.lane()) {
+        return Err(Fault::OddReply);
     }
+    Ok(shared.call(rt, seat, step)?)
+}
 
+impl<L: Ledger, T: CarriesOut> Desk<L, T> {
     fn enter_span<R: Wait>(
         &mut self,
         rt: &R,
@@ -123,24 +130,20 @@ impl<L: Ledger, T: CarriesOut> Desk<L, T> {
             parent: Parent::Contextual,
             values,
         });
-        let name = made(self.call(rt, &opening)?)?;
+        let name = made(call(rt, &self.shared, &mut self.seat, &opening)?)?;
         let entering = Step::Enter(SpanCall {
             lane: LANE,
             moment: OPENED,
             span: Some(name),
         });
-        done(self.call(rt, &entering)?)
+        done(call(rt, &self.shared, &mut self.seat, &entering)?)
     }
 
     /// Tells of events, whose second field is their number mod 10.
     fn tell<R: Wait>(&mut self, rt: &R, count: u64) -> Result<(), Fault> {
         for i in 0..count {
             set_number(&mut self.event, i);
-            if !is_of_lane(&self.event, self.seat.lane()) {
-                return Err(Fault::OddReply);
-            }
-            let reply = self.shared.call(rt, &mut self.seat, &self.event)?;
-            done(reply)?;
+            done(call(rt, &self.shared, &mut self.seat, &self.event)?)?;
         }
         Ok(())
     }
@@ -157,21 +160,22 @@ impl<L: Ledger, T: CarriesOut> Desk<L, T> {
     }
 }
 
-/// A seat at a trace over a folder that only counts, in a span.
-fn sit<L: Ledger, R: Wait>(
+/// A seat at a trace, in a span.
+fn sit<L: Ledger, T: CarriesOut, R: Wait>(
     rt: &R,
     alloc: Global,
     blank: Blank,
-) -> Result<Desk<L, CountingTrace>, Fault>
-    requires { (blank.name ≡ L.name) × (blank.parts ≡ L.parts) × (blank.parts ≡ 2) }
+    opened: Opened<T>,
+) -> Result<Desk<L, T>, Fault>
+    requires { (blank.name ≡ L.name) × (blank.parts ≡ L.parts) × (blank.parts ≡ 2) × T.ready opened.trace }
 {
     let Opened {
         trace,
         outer,
         event,
-    } = open(alloc)?;
+    } = opened;
     let event = event_step(alloc, event)?;
-    let Ok(shared) = Shared::<L, CountingTrace>::new(alloc, blank, 2, trace) else {
+    let Ok(shared) = Shared::<L, T>::new(alloc, blank, 2, trace) else {
         return Err(Fault::OutOfMemory);
     };
     let seat = shared.seat(rt, LANE)?;
@@ -184,16 +188,17 @@ fn sit<L: Ledger, R: Wait>(
     Ok(desk)
 }
 
-/// Times steps of a trace that keeps a journal, until that is let go.
-pub(crate) fn time_shared<L: Ledger, R: Clock + Wait>(
+/// Times steps of a trace, until its journal is let go.
+fn time_steps<L: Ledger, T: CarriesOut, R: Clock + Wait>(
     rt: &R,
     alloc: Global,
     blank: Blank,
+    opened: Opened<T>,
     count: u64,
 ) -> Result<Times, Fault>
-    requires { (blank.name ≡ L.name) × (blank.parts ≡ L.parts) × (blank.parts ≡ 2) }
+    requires { (blank.name ≡ L.name) × (blank.parts ≡ L.parts) × (blank.parts ≡ 2) × T.ready opened.trace }
 {
-    let mut desk = sit::<L, R>(rt, alloc, blank)?;
+    let mut desk = sit::<L, T, R>(rt, alloc, blank, opened)?;
     let start = Instant::now(rt)?;
     desk.tell(rt, count)?;
     let calls = start.elapsed(rt)?.as_nanos();
@@ -202,16 +207,34 @@ pub(crate) fn time_shared<L: Ledger, R: Clock + Wait>(
     Ok(Times { calls, all })
 }
 
-/// Counts what such steps hand over.
-pub(crate) fn count_shared<L: Ledger, R: Wait>(
+/// The trace after such steps.
+fn trace_after<L: Ledger, T: CarriesOut, R: Wait>(
     rt: &R,
     alloc: Global,
     blank: Blank,
+    opened: Opened<T>,
     count: u64,
-) -> Result<Counter, Fault>
-    requires { (blank.name ≡ L.name) × (blank.parts ≡ L.parts) × (blank.parts ≡ 2) }
+) -> Result<T, Fault>
+    requires { (blank.name ≡ L.name) × (blank.parts ≡ L.parts) × (blank.parts ≡ 2) × T.ready opened.trace }
 {
-    let mut desk = sit::<L, R>(rt, alloc, blank)?;
+    let mut desk = sit::<L, T, R>(rt, alloc, blank, opened)?;
     desk.tell(rt, count)?;
-    counted(&desk.close(alloc)?)
+    desk.close(alloc)
+}
+
+/// Times steps of a trace over a folder that only counts, until its journal is let go.
+pub(crate) fn time_shared<R: Clock + Wait>(
+    rt: &R,
+    alloc: Global,
+    count: u64,
+) -> Result<Times, Fault> {
+    let opened = open(alloc, CountingFolder::new(alloc))?;
+    time_steps::<Brand, CountingTrace, R>(rt, alloc, Blank::new(2), opened, count)
+}
+
+/// Counts what such steps hand over.
+pub(crate) fn count_shared<R: Wait>(rt: &R, alloc: Global, count: u64) -> Result<Counter, Fault> {
+    let opened = open(alloc, CountingFolder::new(alloc))?;
+    let trace = trace_after::<Brand, CountingTrace, R>(rt, alloc, Blank::new(2), opened, count)?;
+    counted(&trace)
 }

@@ -11,10 +11,8 @@ use crate::timing::counting_stage;
 use event_formatter::LineFormat;
 use std::alloc::Global;
 use std::io::Write;
-use std::marker::Brand;
 use std::rt::Clock;
 use std::sync::Wait;
-use std::sync::ledger::Blank;
 use std::thread::Threads;
 
 /// How often a bench's calls are made where only sums are shown.
@@ -90,7 +88,7 @@ fn sum<R: Clock + AllocGlobal + Threads + Wait + Sync + Copy + Send + Drop + 'st
     match bench {
         Bench::DirectFile4 => sum_of_threads(rt, bench),
         Bench::Live | Bench::LiveAll => sum_of_live(rt, bench),
-        Bench::Shared => Ok(one_span(count_shared::<Brand, R>(rt, alloc, Blank::new(2), SMALL)?)),
+        Bench::Shared => Ok(one_span(count_shared(rt, alloc, SMALL)?)),
         _ => sum_on(alloc, bench),
     }
 }

@@ -2,10 +2,15 @@
 
 use crate::bench::Bench;
 use crate::counting::CountingFolder;
-use crate::program::main_with;
+use crate::four::time_threads;
+use crate::program::{main_with, path_in};
+use crate::timing::counting_stage;
 use std::alloc::{AllocError, Global};
 use std::process::Abort;
+use std::rt::Clock;
+use std::sync::Wait;
 use std::test::Fail;
+use std::thread::Threads;
 
 /// More than any run here writes, so that the buffers never grow.
 const ROOM: usize = 4_096;
@@ -26,7 +31,10 @@ fn words_of(alloc: Global, words: &[&str]) -> Result<Vec<String>, AllocError> {
     Ok(all)
 }
 
-fn run(rt: &HostRuntime, words: &[&str]) -> Result<Answer, Fail> {
+fn run<R: Clock + AllocGlobal + Threads + Wait + Sync + Copy + Send + Drop + 'static>(
+    rt: &R,
+    words: &[&str],
+) -> Result<Answer, Fail> {
     let alloc = rt.alloc();
     let words = words_of(alloc, words)?;
     let mut output = Vec::with_capacity(alloc, ROOM)?;
@@ -77,5 +85,56 @@ fn a_time_is_told(rt: HostRuntime) -> Result<(), Fail> {
     assert_eq!(rt; answer.status, 0);
     let text = str::from_utf8(answer.output.as_slice()).ok().unwrap_or("");
     assert!(rt; text.starts_with("span_cycle 5 "), "{text}");
+    Ok(())
+}
+
+/// What the output shows behind the name and the count: two times.
+fn times_of<'a>(output: &'a [u8], start: &str) -> Result<(&'a str, &'a str), Fail> {
+    let text = str::from_utf8(output).ok().ok_or("a text")?;
+    let times = text.strip_prefix(start).ok_or("the name and the count")?;
+    Ok(times.trim_end().split_once(' ').ok_or("two times")?)
+}
+
+#[test]
+fn calls_end_before_all_is_done(rt: HostRuntime) -> Result<(), Fail> {
+    for (name, start) in [
+        ("live", "live 250 "),
+        ("live_all", "live_all 250 "),
+        ("shared", "shared 250 "),
+    ] {
+        let answer = run(&rt, &["bench", name, "250", "log"])?;
+        if answer.status == 4 {
+            return Err("out of memory".into());
+        }
+        assert_eq!(rt; answer.status, 0);
+        let (calls, all) = times_of(answer.output.as_slice(), start)?;
+        let calls = calls.parse::<u64>().ok().ok_or("a number")?;
+        let all = all.parse::<u64>().ok().ok_or("a number")?;
+        assert!(rt; calls <= all);
+    }
+    Ok(())
+}
+
+/// Fewer than threads, and a number that they don't share evenly.
+#[test]
+fn threads_tell_each_event_once(rt: HostRuntime) -> Result<(), Fail> {
+    let alloc = rt.alloc();
+    for count in [0, 3, 250u64] {
+        let stage = counting_stage(alloc, Bench::DirectFile4, 0).map_err(|_| "a stage")?;
+        let told = time_threads(&rt, stage, count);
+        let (_times, stage) = told.map_err(|_| "a time")?;
+        let counted = stage.counted().map_err(|_| "a sum")?;
+        assert_eq!(rt; (counted.lines, counted.bytes), (count, 59 * count));
+    }
+    Ok(())
+}
+
+#[test]
+fn a_path_has_a_folder(rt: HostRuntime) -> Result<(), Fail> {
+    for (path, folder) in [("log", "."), ("/log", "/"), ("a/b/log", "a/b")] {
+        let words = words_of(rt.alloc(), &["bench", "never", "3", path])?;
+        assert_eq!(rt; path_in(words.as_slice()), folder);
+    }
+    assert_eq!(rt; path_in(&[]), ".");
     Ok(())
 }

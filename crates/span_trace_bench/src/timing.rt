@@ -13,10 +13,8 @@ use crate::times::Times;
 use event_formatter::LineFormat;
 use span_tracing::{Folder, NoLive};
 use std::alloc::Global;
-use std::marker::Brand;
 use std::rt::Clock;
 use std::sync::Wait;
-use std::sync::ledger::Blank;
 use std::thread::Threads;
 use std::time::Instant;
 
@@ -99,7 +97,7 @@ pub(crate) fn time<
         Bench::Live | Bench::LiveAll => {
             Ok(time_live(rt, alloc, bench, count, folder, prefix)?.0)
         }
-        Bench::Shared => time_shared::<Brand, R>(rt, alloc, Blank::new(2), count),
+        Bench::Shared => time_shared(rt, alloc, count),
         _ => time_on(rt, bench, count, counting_stage(alloc, bench, MANY)?),
     }
 }
