@@ -1,4 +1,4 @@
-//! The program over any runtime, folder and outputs.
+//! The program over any runtime and outputs.
 
 ghost use Rattle.std.specs.Prelude.{◌≡◌, ◌≤◌, Err, map, string_bytes, false};
 ghost use Rattle.span_trace_bench.specs.Names.{asks_bench};
@@ -7,11 +7,11 @@ use crate::bench::Bench;
 use crate::fault::Fault;
 use crate::sums::write_sums;
 use crate::timing::time;
-use span_tracing::Folder;
 use std::io::Write;
 use std::rt::Clock;
 use std::sync::Wait;
 use std::thread::Threads;
+use tracing_appender_rolling::DiskFolder;
 
 /// The folder of a file's path, and the file's name.
 fn parts_of(path: &str) -> (&str, &str) {
@@ -33,9 +33,15 @@ pub fn path_in(words: &[String]) -> &str {
 /// Times a bench, and writes its name, the count, and the nanoseconds until the last call came back and until nothing was left to do.
 fn write_time<
     R: Clock + AllocGlobal + Threads + Wait + Sync + Copy + Send + Drop + 'static,
-    D: Folder + Send + 'static,
     W: Write,
->(rt: &R, bench: Bench, count: u64, folder: D, file: &str, output: &mut W) -> Result<(), Fault> {
+>(
+    rt: &R,
+    bench: Bench,
+    count: u64,
+    folder: DiskFolder<HostRuntime>,
+    file: &str,
+    output: &mut W,
+) -> Result<(), Fault> {
     let times = time(rt, bench, count, folder, parts_of(file).1)?;
     let name = bench.name();
     let calls = times.calls;
@@ -45,11 +51,12 @@ fn write_time<
 }
 
 /// Does what the words ask for.
-fn answer<
-    R: Clock + AllocGlobal + Threads + Wait + Sync + Copy + Send + Drop + 'static,
-    D: Folder + Send + 'static,
-    W: Write,
->(rt: &R, words: &[String], folder: D, output: &mut W) -> Result<(), Fault>
+fn answer<R: Clock + AllocGlobal + Threads + Wait + Sync + Copy + Send + Drop + 'static, W: Write>(
+    rt: &R,
+    words: &[String],
+    folder: DiskFolder<HostRuntime>,
+    output: &mut W,
+) -> Result<(), Fault>
     ensures { asks_bench (map string_bytes words.now) ≡ false → (result ≡ Err Fault.Usage) × (output.new ≡ output.old) }
 {
     match words {
@@ -76,10 +83,9 @@ fn answer<
 /// oddly. 4: there was no memory. 5: the clock or the output refused.
 pub fn main_with<
     R: Clock + AllocGlobal + Threads + Wait + Sync + Copy + Send + Drop + 'static,
-    D: Folder + Send + 'static,
     W: Write,
     E: Write,
->(rt: &R, words: &[String], folder: D, output: &mut W, errors: &mut E) -> u8
+>(rt: &R, words: &[String], folder: DiskFolder<HostRuntime>, output: &mut W, errors: &mut E) -> u8
     ensures range { result ≤ 5 }
 
     // Any words but none, or `bench` with a bench's name, a count and a file, give status 2.

@@ -3,7 +3,9 @@
 use crate::bench::Bench;
 use crate::counting::CountingFolder;
 use crate::four::time_threads;
+use crate::live::time_live;
 use crate::program::{main_with, path_in};
+use crate::shared::time_shared;
 use crate::timing::counting_stage;
 use std::alloc::{AllocError, Global};
 use std::process::Abort;
@@ -11,6 +13,7 @@ use std::rt::Clock;
 use std::sync::Wait;
 use std::test::Fail;
 use std::thread::Threads;
+use tracing_appender_rolling::DiskFolder;
 
 /// More than any run here writes, so that the buffers never grow.
 const ROOM: usize = 4_096;
@@ -33,13 +36,14 @@ fn words_of(alloc: Global, words: &[&str]) -> Result<Vec<String>, AllocError> {
 
 fn run<R: Clock + AllocGlobal + Threads + Wait + Sync + Copy + Send + Drop + 'static>(
     rt: &R,
+    host: HostRuntime,
     words: &[&str],
 ) -> Result<Answer, Fail> {
     let alloc = rt.alloc();
     let words = words_of(alloc, words)?;
     let mut output = Vec::with_capacity(alloc, ROOM)?;
     let mut errors = Vec::with_capacity(alloc, ROOM)?;
-    let folder = CountingFolder::new(alloc);
+    let folder = DiskFolder::new(host, path_in(words.as_slice()));
     let status = main_with(rt, words.as_slice(), folder, &mut output, &mut errors);
     Ok(Answer {
         status,
@@ -56,7 +60,7 @@ fn other_words_are_answered_with_the_usage(rt: HostRuntime) -> Result<(), Fail> 
         ["time", "never", "3", "log"].as_slice(),
         ["bench", "never"].as_slice(),
     ] {
-        let answer = run(&rt, words)?;
+        let answer = run(&rt, rt, words)?;
         assert_eq!(rt; answer.status, 2);
         assert!(rt; answer.output.is_empty());
         assert_eq!(rt;
@@ -78,7 +82,7 @@ fn a_bench_has_its_name(rt: HostRuntime) -> Result<(), Fail> {
 
 #[test]
 fn a_time_is_told(rt: HostRuntime) -> Result<(), Fail> {
-    let answer = run(&rt, &["bench", "span_cycle", "5", "log"])?;
+    let answer = run(&rt, rt, &["bench", "span_cycle", "5", "log"])?;
     if answer.status == 4 {
         return Err("out of memory".into());
     }
@@ -88,29 +92,17 @@ fn a_time_is_told(rt: HostRuntime) -> Result<(), Fail> {
     Ok(())
 }
 
-/// What the output shows behind the name and the count: two times.
-fn times_of<'a>(output: &'a [u8], start: &str) -> Result<(&'a str, &'a str), Fail> {
-    let text = str::from_utf8(output).ok().ok_or("a text")?;
-    let times = text.strip_prefix(start).ok_or("the name and the count")?;
-    Ok(times.trim_end().split_once(' ').ok_or("two times")?)
-}
-
 #[test]
 fn calls_end_before_all_is_done(rt: HostRuntime) -> Result<(), Fail> {
-    for (name, start) in [
-        ("live", "live 250 "),
-        ("live_all", "live_all 250 "),
-        ("shared", "shared 250 "),
-    ] {
-        let answer = run(&rt, &["bench", name, "250", "log"])?;
-        if answer.status == 4 {
-            return Err("out of memory".into());
-        }
-        assert_eq!(rt; answer.status, 0);
-        let (calls, all) = times_of(answer.output.as_slice(), start)?;
-        let calls = calls.parse::<u64>().ok().ok_or("a number")?;
-        let all = all.parse::<u64>().ok().ok_or("a number")?;
-        assert!(rt; calls <= all);
+    let alloc = rt.alloc();
+    let shared = time_shared(&rt, alloc, 250).map_err(|_| "a time")?;
+    assert!(rt; shared.calls <= shared.all);
+    for bench in [Bench::Live, Bench::LiveAll] {
+        let folder = CountingFolder::new(alloc);
+        let timed = time_live(&rt, alloc, bench, 250, folder, "log");
+        let (live, files) = timed.map_err(|_| "a time")?;
+        assert!(rt; live.calls <= live.all);
+        assert_eq!(rt; files.appender().folder().writes, 250);
     }
     Ok(())
 }

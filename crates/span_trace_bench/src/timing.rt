@@ -17,6 +17,10 @@ use std::rt::Clock;
 use std::sync::Wait;
 use std::thread::Threads;
 use std::time::Instant;
+use tracing_appender_rolling::DiskFolder;
+
+/// A folder of the system. That a trace over it may go to another thread is proved of this type, and not of any folder.
+pub(crate) type Disk = DiskFolder<HostRuntime>;
 
 /// How many other spans are open in the benches that have many, where their time is taken.
 const MANY: u64 = 10_000;
@@ -78,10 +82,13 @@ fn time_lines<R: Clock>(
 }
 
 /// Makes a bench's calls and times them. Where it has files they stand in the folder, and their names begin with the prefix.
-pub(crate) fn time<
-    R: Clock + AllocGlobal + Threads + Wait + Sync + Copy + Send + Drop + 'static,
-    D: Folder + Send + 'static,
->(rt: &R, bench: Bench, count: u64, folder: D, prefix: &str) -> Result<Times, Fault> {
+pub(crate) fn time<R: Clock + AllocGlobal + Threads + Wait + Sync + Copy + Send + Drop + 'static>(
+    rt: &R,
+    bench: Bench,
+    count: u64,
+    folder: Disk,
+    prefix: &str,
+) -> Result<Times, Fault> {
     let alloc = rt.alloc();
     if let Some(shape) = bench.line_format() {
         return time_lines(rt, alloc, shape, count);
