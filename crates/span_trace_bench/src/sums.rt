@@ -77,7 +77,7 @@ fn sum_of_lines(alloc: Global, shape: LineFormat) -> Result<Sum, Fault> {
 }
 
 /// Makes a bench's calls a few times.
-fn sum<R: Clock + AllocGlobal + Threads + Wait + Sync + Copy + Send + Drop + 'static>(
+fn sum_of<R: Clock + AllocGlobal + Threads + Wait + Sync + Copy + Send + Drop + 'static>(
     rt: &R,
     bench: Bench,
 ) -> Result<Sum, Fault> {
@@ -99,7 +99,7 @@ pub(crate) fn write_sums<
     W: Write,
 >(rt: &R, output: &mut W) -> Result<(), Fault> {
     for bench in SHOWN {
-        let sum = sum(rt, bench)?;
+        let sum = sum_of(rt, bench)?;
         let name = bench.name();
         let bytes = sum.counted.bytes;
         let lines = sum.counted.lines;
