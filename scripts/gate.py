@@ -36,6 +36,7 @@ import ledger  # noqa: E402
 import promises  # noqa: E402
 import quick  # noqa: E402
 import real_files  # noqa: E402
+import service  # noqa: E402
 from kit import Crate, rt, rtlib  # noqa: E402
 
 LEDGER = "docs/edits.ledger"
@@ -43,8 +44,10 @@ LEDGER = "docs/edits.ledger"
 SECONDS = f"{os.path.dirname(os.path.realpath(__file__))}/seconds.json"
 # What runs a crate's tests, in the crate's folder.
 TESTS = [f"{os.path.dirname(os.path.realpath(__file__))}/unproved.py", "--test"]
+# Programs that are played in scenes with real directories.
+SCENES = {cases.PROGRAM: real_files, service.PROGRAM: service}
 # What READMEs show parts of: each of these is proved or run.
-EXAMPLES = ["crates/examples/src/**/*.rt", "crates/uses/src/**/*.rt"]
+EXAMPLES = ["crates/examples*/src/**/*.rt", "crates/uses/src/**/*.rt"]
 # What a line takes where nothing was measured, and a program's proof beside its lines: its types name every part below.
 A_LINE, A_PROGRAM = 0.045, 400
 
@@ -183,11 +186,11 @@ class Gate:
             if it.name == cases.PROGRAM:
                 call = lambda it=it: cases.tried(cases.built(it), cases.sorted_out()[0])
                 found[it.name, "cases"] = lanes.Task([(it.name, "program")], 20, call)
-                call = lambda it=it: real_files.tried(cases.built(it))
-                found[it.name, "real files"] = lanes.Task([(it.name, "program")], 20, call)
                 if hostile.sample_of(it):
                     call = lambda it=it: hostile.tried(cases.built(it), hostile.sample_of(it))
                     found[it.name, "hostile input"] = lanes.Task([(it.name, "program")], 60, call)
+            if it.name in SCENES:
+                found[it.name, "real files"] = lanes.Task([(it.name, "program")], 20, lambda it=it: SCENES[it.name].tried(cases.built(it)))
             if it.has_tests():
                 call = tests_proved if self.how.tests == "prove" else tests_run
                 found[it.name, "tests"] = lanes.Task(after, 50, lambda it=it, call=call: call(it))
@@ -303,12 +306,6 @@ def chosen(crates, names):
     return [it for it in crates if it.name in wanted]
 
 
-def processors():
-    """Returns how many tasks run side by side: one a processor, as many as memory holds."""
-    number = os.environ.get("RT_JOBS", "")
-    return int(number) if number.isdigit() and int(number) else max(1, min(rt.processors(), rt.free() // lanes.MEMORY))
-
-
 def copied(root, to):
     """Copies the repository's files, without what git and earlier checks keep, so that a run begins with nothing and leaves nothing behind."""
     folders = {it: {"out"} for it in glob.glob(f"{root}/crates/*")} | {root: {".git"}}
@@ -353,8 +350,8 @@ def run(how, top):
         gate.count(not promises.stale(), f"{', '.join(promises.stale())}: stale, run scripts/promises.py")
         gate.count(not promises.untold(), f"{', '.join(promises.untold())}: in no table of promises")
         if not refused:
-            print(f"gate: {processors()} tasks side by side; {lanes.room_left()}", flush=True)
-            lanes.run(gate.quick_tasks() if how.quick else gate.tasks(), processors(), gate.ended)
+            print(f"gate: {lanes.processors()} tasks side by side; {lanes.room_left()}", flush=True)
+            lanes.run(gate.quick_tasks() if how.quick else gate.tasks(), lanes.processors(), gate.ended)
         if how.edits != "drawn" and not how.quick:
             gate.write_ledger()
         return told(gate, (time.time() - began) / 60)

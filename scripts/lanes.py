@@ -23,6 +23,12 @@ PR_SET_PDEATHSIG = 1
 MEMORY = 4_000_000_000
 
 
+def processors():
+    """Returns how many tasks run side by side: one a processor, as many as memory holds."""
+    number = os.environ.get("RT_JOBS", "")
+    return int(number) if number.isdigit() and int(number) else max(1, min(kit.rt.processors(), kit.rt.free() // MEMORY))
+
+
 def begun(task, jobs):
     """Starts the task in a process of its own, a proof of which takes so many processes, and returns its number and the files that it writes."""
     said, gave = tempfile.TemporaryFile(), tempfile.TemporaryFile()

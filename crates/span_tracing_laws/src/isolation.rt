@@ -50,11 +50,11 @@ pub fn isolated<N: FormatFields + Drop, E: FormatEvent, F: Filter, D: Folder, Q:
 /// took stands in the file of the last try that had succeeded by then, and nothing else stands in a file behind the bytes that it had at
 /// the opening, whether it stands or was removed. No line may have found no memory, and each moment has to be in range.
 ///
-/// Two runs from one skeleton are answered alike where they are alike: the same steps, with the same answers of filters and queues, of
-/// which the same found no memory, and the same had to wait for a held line. Then the same comes to each output of both. So an output
-/// whose machine and route are the same in both ends alike, and each of its sinks does that began alike, as in [`isolated`]: a fault of
-/// another sink's folder changes none of its files. What a queue answers, and what waits in it, doesn't depend on its folder, where each
-/// line finds memory there.
+/// Two runs from one skeleton are answered alike where they are alike, but for what queues answer: the same steps and the same calls on
+/// queues, with the same answers of filters, of which the same found no memory, and the same had to wait for a held line. Then the same
+/// comes to each output of both. So an output whose machine and route are the same in both ends alike, and each of its sinks does that
+/// began alike, and its queue answers the same, as in [`isolated`]: a fault of another sink's folder changes none of its files. What a
+/// queue answers, and what waits in it, doesn't depend on its folder, where each line finds memory there.
 pub fn faults_stay_apart<
     N: FormatFields + Drop,
     E: FormatEvent,

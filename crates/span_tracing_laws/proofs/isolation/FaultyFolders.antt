@@ -1,7 +1,8 @@
 -- Sinks over folders that refuse calls and cut writes short.
 use Rattle.std.proofs.Common.{◌≡◌, ◌∙◌, ◌==◌, ◌-◌, ℕ, suc, nat_lt, if◌then◌else◌, List, [], ◌∷◌, ◌++◌, length, Option, Some}
-use Rattle.std.proofs.Common.{None}
+use Rattle.std.proofs.Common.{Bool, true, false, None, map}
 use Rattle.std.proofs.Common.{slice_get, refl, sym, ap, subst}
+use Rattle.std.proofs.lemmas.List.{map-append}
 use Rattle.tracing_core_fields.specs.requests.PlainRequests.{PlainEvent}
 use Rattle.tracing_core_moments.specs.declared.at.At.{At}
 use Rattle.tracing_core_moments.specs.declared.moment.Moment.{Moment}
@@ -41,12 +42,12 @@ use Rattle.span_tracing_skeleton.specs.declared.queue_call.SinkCall.{SinkCall}
 use Rattle.span_tracing_skeleton.specs.declared.setting.OutputPlace.{OutputPlace}
 use Rattle.span_tracing_steps.specs.States.{stack_in}
 use Rattle.span_tracing_laws.specs.isolation.FaultyFolders.{AllAlike, FaultsStayApart, OneSkeleton, OpenedAndHanded, PiecesStand}
-use Rattle.span_tracing_laws.specs.isolation.FaultyFolders.{TurnsAlike}
+use Rattle.span_tracing_laws.specs.isolation.FaultyFolders.{RepliesAlike, ReplyAlike, TurnsAlike}
 use Rattle.span_tracing_laws.specs.isolation.FaultyFolders.{sink_counts}
 use Rattle.span_tracing_laws.specs.isolation.OutputTurns.{filter_numbers}
 use Rattle.span_tracing_laws.specs.isolation.IsolatedOutputs.{DirectOf, Isolated, OneRun, brought, turns_in}
-use Rattle.span_tracing_laws.specs.isolation.OutputTurns.{OutputTurn, calls_at, calls_by, changes_by, hears_by, hears_some, run_brings}
-use Rattle.span_tracing_laws.specs.isolation.OutputTurns.{turn_brings}
+use Rattle.span_tracing_laws.specs.isolation.OutputTurns.{OutputTurn, calls_at, calls_by, calls_if, changes_by, hears_by, hears_some}
+use Rattle.span_tracing_laws.specs.isolation.OutputTurns.{run_brings, turn_brings, unreplied}
 use Rattle.span_tracing_laws.specs.runs.Files.{sink_turns, stack_sinks}
 use Rattle.span_tracing_laws.specs.runs.Runs.{Drove, Plain, Starved, StepWithMask, Waited, Went, lines_of, plain_after}
 use Rattle.span_tracing_laws.specs.runs.Runs.{plain_reply}
@@ -66,6 +67,25 @@ handed_then : (names : FileNames) (a b c : Held) (xs ys : List Handed) → Hande
 handed_then names a b c [] ys first later = subst (λ (k : Held). HandedInTurn names k ys c) first later
 handed_then names a b c (x ∷ xs) ys (next, answer, fed, over, rest) later =
     (next, answer, fed, over, handed_then names next b c xs ys rest later)
+
+-- a call comes to the same output, whatever the queue answers
+calls_any : {S : Type 0} (sinks : List (Routed S)) (stack place : ℕ) (at : Option OutputPlace) (call : QueueCall) (reply answer : Reply) →
+    map unreplied (calls_by sinks stack place at call reply) ≡ map unreplied (calls_by sinks stack place at call answer)
+calls_any sinks stack place None call reply answer = refl
+calls_any sinks stack place (Some at) call reply answer = by_stack (at.stack == stack)
+  where
+    here : (b : Bool) (sink : ℕ) → map unreplied (calls_if b sink call reply) ≡ map unreplied (calls_if b sink call answer)
+    here true sink = refl
+    here false sink = refl
+
+    there : (its : Option SinkPlace) → map unreplied (calls_at its place call reply) ≡ map unreplied (calls_at its place call answer)
+    there None = refl
+    there (Some x) = here (x.output == place) x.sink
+
+    by_stack : (b : Bool) → map unreplied (if b then calls_at (sink_place sinks 0 at.place) place call reply else []) ≡
+        map unreplied (if b then calls_at (sink_place sinks 0 at.place) place call answer else [])
+    by_stack true = there (sink_place sinks 0 at.place)
+    by_stack false = refl
 
 -- where a sink with a number stands is settled by how many sinks each output has
 place_same : {S T : Type 0} (xs : List (Routed S)) (ys : List (Routed T)) (output number : ℕ) → sink_counts xs ≡ sink_counts ys →
@@ -87,7 +107,7 @@ module _ {N : Type 0} (n : Ghosts N) where
 
   -- of a turn the reply, and what it leaves of the skeleton
   turn_same : (p q : Plain N) (t u : StepWithMask) → q.skeleton ≡ p.skeleton → TurnsAlike t u →
-      (plain_reply n q u ≡ plain_reply n p t) × ((plain_after n q u).skeleton ≡ (plain_after n p t).skeleton)
+      ReplyAlike t (plain_reply n p t) (plain_reply n q u) × ((plain_after n q u).skeleton ≡ (plain_after n p t).skeleton)
   turn_same p q (Went step a fates) (Went other b others) same alike = (
     ap (λ (s : Skeleton). reply_of s other b) same ∙ ap (λ (x : PlainStep). reply_of p.skeleton x b) (sym alike.0)
         ∙ ap (reply_of p.skeleton step) (sym alike.1),
@@ -96,21 +116,18 @@ module _ {N : Type 0} (n : Ghosts N) where
   )
   turn_same p q (Starved step) (Starved other) same alike = (refl, same)
   turn_same p q (Waited step) (Waited other) same alike = (refl, same)
-  turn_same p q (Drove ask answer) (Drove other reply) same alike = (sym alike.1, same)
+  turn_same p q (Drove ask answer) (Drove other reply) same alike = (tt, same)
   turn_same p q t u same alike = absurd alike
 
   run_same : (p q : Plain N) (ts us : List StepWithMask) → q.skeleton ≡ p.skeleton → AllAlike ts us →
-      (replies_of n q us ≡ replies_of n p ts) × ((plain_run n q us).skeleton ≡ (plain_run n p ts).skeleton)
+      RepliesAlike ts (replies_of n p ts) (replies_of n q us) × ((plain_run n q us).skeleton ≡ (plain_run n p ts).skeleton)
   run_same p q [] [] same alike = (refl, same)
   run_same p q [] (u ∷ us) same alike = absurd alike
   run_same p q (t ∷ ts) [] same alike = absurd alike
   run_same p q (t ∷ ts) (u ∷ us) same alike =
       let one = turn_same p q t u same alike.0 in
-      let later = run_same (plain_after n p t) (plain_after n q u) ts us one.1 alike.1 in (
-        ap (λ (r : Reply). r ∷ replies_of n (plain_after n q u) us) one.0
-            ∙ ap (λ (rs : List Reply). plain_reply n p t ∷ rs) later.0,
-        later.1,
-      )
+      let later = run_same (plain_after n p t) (plain_after n q u) ts us one.1 alike.1 in
+      ((one.0, later.0), later.1)
 
   module _ {S T : Type 0} (sinks : List (Routed S)) (also : List (Routed T)) (stack place : ℕ)
       (counts : sink_counts also ≡ sink_counts sinks)
@@ -132,16 +149,17 @@ module _ {N : Type 0} (n : Ghosts N) where
       SameNumbers p q = filter_numbers (q.outs stack) ≡ filter_numbers (p.outs stack)
 
       turn_brings_same : (p q : Plain N) (t u : StepWithMask) → q.skeleton ≡ p.skeleton → SameNumbers p q → TurnsAlike t u →
-          (turn_brings n also q u stack place ≡ turn_brings n sinks p t stack place) × SameNumbers (plain_after n p t) (plain_after n q u)
+          (map unreplied (turn_brings n also q u stack place) ≡ map unreplied (turn_brings n sinks p t stack place)) ×
+          SameNumbers (plain_after n p t) (plain_after n q u)
       turn_brings_same p q (Went step a fates) (Went other b others) same numbers alike = (
-        ap (λ (s : Skeleton). brings s other b (q.outs stack)) same
+        ap (map unreplied) (ap (λ (s : Skeleton). brings s other b (q.outs stack)) same
             ∙ ap (λ (x : PlainStep). brings p.skeleton x b (q.outs stack)) (sym alike.0)
             ∙ ap (λ (x : Answers). brings p.skeleton step x (q.outs stack)) (sym alike.1)
             ∙ ap (λ (xs : List OutputTurn). changes_by stack place (setting_of p.skeleton step) ++ xs)
             (hears_same (told_to N stack (told_of N p.skeleton step a)) (with_set p.skeleton step (p.outs stack))
             (with_set p.skeleton step (q.outs stack)) (told_by_numbers N p.skeleton stack step a)
             (numbers_with n stack (setting_of p.skeleton step) (q.outs stack) ∙ numbers
-            ∙ sym (numbers_with n stack (setting_of p.skeleton step) (p.outs stack)))),
+            ∙ sym (numbers_with n stack (setting_of p.skeleton step) (p.outs stack))))),
         left q other b others ∙ numbers ∙ sym (left p step a fates),
       )
         where
@@ -160,24 +178,30 @@ module _ {N : Type 0} (n : Ghosts N) where
       turn_brings_same p q (Starved step) (Starved other) same numbers alike = (refl, numbers)
       turn_brings_same p q (Waited step) (Waited other) same numbers alike = (refl, numbers)
       turn_brings_same p q (Drove ask answer) (Drove other reply) same numbers alike = (
-        ap (λ (s : Skeleton). calls_by also stack place (output_in s.sinks 0 other.sink) other.call reply) same
-            ∙ ap (λ (x : SinkCall). calls_by also stack place (output_in p.skeleton.sinks 0 x.sink) x.call reply) (sym alike.0)
-            ∙ ap (λ (x : Reply). calls_by also stack place (output_in p.skeleton.sinks 0 ask.sink) ask.call x) (sym alike.1)
-            ∙ calls_same (output_in p.skeleton.sinks 0 ask.sink) ask.call answer,
+        ap (map unreplied) (ap (λ (s : Skeleton). calls_by also stack place (output_in s.sinks 0 other.sink) other.call reply) same
+            ∙ ap (λ (x : SinkCall). calls_by also stack place (output_in p.skeleton.sinks 0 x.sink) x.call reply) (sym alike))
+            ∙ calls_any also stack place (output_in p.skeleton.sinks 0 ask.sink) ask.call reply answer
+            ∙ ap (map unreplied) (calls_same (output_in p.skeleton.sinks 0 ask.sink) ask.call answer),
         numbers,
       )
       turn_brings_same p q t u same numbers alike = absurd alike
 
       brings_same : (p q : Plain N) (ts us : List StepWithMask) → q.skeleton ≡ p.skeleton → SameNumbers p q → AllAlike ts us →
-          run_brings n also q us stack place ≡ run_brings n sinks p ts stack place
+          map unreplied (run_brings n also q us stack place) ≡ map unreplied (run_brings n sinks p ts stack place)
       brings_same p q [] [] same numbers alike = refl
       brings_same p q [] (u ∷ us) same numbers alike = absurd alike
       brings_same p q (t ∷ ts) [] same numbers alike = absurd alike
       brings_same p q (t ∷ ts) (u ∷ us) same numbers alike =
           let one = turn_brings_same p q t u same numbers alike.0 in
           let later = brings_same (plain_after n p t) (plain_after n q u) ts us (turn_same p q t u same alike.0).1 one.1 alike.1 in
-          ap (λ (xs : List OutputTurn). xs ++ run_brings n also (plain_after n q u) us stack place) one.0
-          ∙ ap (λ (xs : List OutputTurn). turn_brings n sinks p t stack place ++ xs) later
+          let mine = turn_brings n sinks p t stack place in
+          let yours = turn_brings n also q u stack place in
+          let my_rest = run_brings n sinks (plain_after n p t) ts stack place in
+          let your_rest = run_brings n also (plain_after n q u) us stack place in
+          map-append unreplied yours your_rest
+          ∙ ap (λ (xs : List OutputTurn). xs ++ map unreplied your_rest) one.0
+          ∙ ap (λ (xs : List OutputTurn). map unreplied mine ++ xs) later
+          ∙ sym (map-append unreplied mine my_rest)
 
 module _ {N E F D Q : Type 0} (contents : D → Option Contents) (failed : D → ℕ) (n : Ghosts N) (line_of : E → Settings → PlainContext →
     PlainEvent → Option (List ℕ)) (g : FilterGhosts F) (h : LayerGhosts (Lines N E))
@@ -229,17 +253,19 @@ module _ {N E F D Q : Type 0} (contents : D → Option Contents) (failed : D →
       record { tries = all; pieces = pieces; goes = goes; current = current; bytes = bytes }
 
   replies_same : (one other : Run) → OneSkeleton contents failed n line_of g h settles one other → AllAlike (ts_in one) (ts_in other) →
-      other.replies ≡ one.replies
+      RepliesAlike (ts_in one) one.replies other.replies
   replies_same one other same alike =
-      (other.run.run.agreed other.plain other.output.agrees).0
-      ∙ (run_same n one.plain other.plain (ts_in one) (ts_in other) same.skeleton alike).0
-      ∙ sym (one.run.run.agreed one.plain one.output.agrees).0
+      subst (RepliesAlike (ts_in one) one.replies) (sym (other.run.run.agreed other.plain other.output.agrees).0)
+      (subst (λ (rs : List Reply). RepliesAlike (ts_in one) rs (replies_of n other.plain (ts_in other)))
+      (sym (one.run.run.agreed one.plain one.output.agrees).0)
+      (run_same n one.plain other.plain (ts_in one) (ts_in other) same.skeleton alike).0)
 
   brings_alike : (one other : Run) → OneSkeleton contents failed n line_of g h settles one other → AllAlike (ts_in one) (ts_in other) →
-      brought contents failed n line_of g h settles other ≡ brought contents failed n line_of g h settles one
+      map unreplied (brought contents failed n line_of g h settles other) ≡ map unreplied (brought contents failed n line_of g h settles one)
   brings_alike one other same alike =
-      ap (λ (k : ℕ). run_brings n (stack_sinks (stack_in other.before k)) other.plain (ts_in other) k other.place) same.stack
-      ∙ ap (λ (k : ℕ). run_brings n (stack_sinks (stack_in other.before one.stack)) other.plain (ts_in other) one.stack k) same.place
+      ap (λ (k : ℕ). map unreplied (run_brings n (stack_sinks (stack_in other.before k)) other.plain (ts_in other) k other.place)) same.stack
+      ∙ ap (λ (k : ℕ). map unreplied (run_brings n (stack_sinks (stack_in other.before one.stack)) other.plain (ts_in other) one.stack k))
+      same.place
       ∙ brings_same n (stack_sinks (stack_in one.before one.stack)) (stack_sinks (stack_in other.before one.stack)) one.stack one.place
       same.sinks one.plain other.plain (ts_in one) (ts_in other) same.skeleton same.numbers alike
 
@@ -251,6 +277,11 @@ module _ {N E F D Q : Type 0} (contents : D → Option Contents) (failed : D →
     replies = replies_same;
     skeleton = λ one other same alike. (run_same n one.plain other.plain (ts_in one) (ts_in other) same.skeleton alike).1;
     brings = brings_alike;
-    others = λ one other same alike machine route. alone.alike one other
-        (record { machine = machine; route = route; brought = brings_alike one other same alike });
+    others = λ one other same alike machine route finds also. alone.alike one other (record {
+      machine = machine;
+      route = route;
+      brings = brings_alike one other same alike;
+      one_finds = finds;
+      other_finds = also;
+    });
   }

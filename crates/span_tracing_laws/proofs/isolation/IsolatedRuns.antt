@@ -144,52 +144,8 @@ module _ {N E F D Q : Type 0} (contents : D → Option Contents) (failed : D →
     answers = come.answers;
   }
 
-  -- what comes to a sink with the same number is the same
-  sends_alike : (one other : Run) → BeginAlike contents failed n line_of g h settles one other → (number : ℕ) →
-      machine_sends n other.sinks.route number other.out.out (brought contents failed n line_of g h settles other) ≡
-      machine_sends n one.sinks.route number one.out.out (brought contents failed n line_of g h settles one)
-  sends_alike one other begin number =
-      let ys = brought contents failed n line_of g h settles other in
-      ap (λ (r : Route). machine_sends n r number other.out.out ys) begin.route
-      ∙ ap (λ (o : PlainOut N). machine_sends n one.sinks.route number o ys) begin.machine
-      ∙ ap (machine_sends n one.sinks.route number one.out.out) begin.brought
-
-  alike : (one other : Run) → BeginAlike contents failed n line_of g h settles one other → EndAlike contents failed n line_of g h settles one other
-  alike one other begin =
-      let ys = brought contents failed n line_of g h settles other in
-      end_alike one other (record {
-        machine = ap (λ (o : PlainOut N). machine_run n o ys) begin.machine ∙ ap (machine_run n one.out.out) begin.brought;
-        lines = ap (λ (o : PlainOut N). machine_lines n o ys) begin.machine ∙ ap (machine_lines n one.out.out) begin.brought;
-        came = λ number. ap came_in (sends_alike one other begin number);
-        answers = λ number old new its same mine yours waits. sends_alike one other begin number;
-      })
-
-  told : (r : Run) → IsCounted r.plain.skeleton →
-      brought contents failed n line_of g h settles r ≡
-      own_brings (spans_of contents failed n line_of g h settles r) (asked contents failed n line_of g h settles r)
-  told r count =
-      run_is n (sinks_of r) r.stack r.place r.out.number counted r.plain (turns_in contents failed n line_of g h settles r)
-      (spans_of contents failed n line_of g h settles r) count (known_first r.stack r.out.number r.plain.skeleton)
-      (slice_get-map (λ (o : Numbered N). o.number) (r.plain.outs r.stack) r.place
-      ∙ ap (option_map (λ (o : Numbered N). o.number)) r.output.machine)
-
-  -- what is brought is the same but for what queues answer
-  brought_seen : (one other : Run) → AskedAlike contents failed n line_of g h settles one other →
-      map unreplied (brought contents failed n line_of g h settles other) ≡ map unreplied (brought contents failed n line_of g h settles one)
-  brought_seen one other begin =
-      let mine = asked contents failed n line_of g h settles one in
-      let yours = asked contents failed n line_of g h settles other in
-      let spans = spans_of contents failed n line_of g h settles one in
-      let its_spans = spans_of contents failed n line_of g h settles other in
-      ap (map unreplied) (told other begin.also)
-      ∙ brings_seen its_spans yours
-      ∙ ap (λ (x : RegistryValue). own_brings x (map seen yours)) begin.spans
-      ∙ ap (own_brings spans) (asked_same begin.says [] yours mine begin.requests begin.other_says begin.one_says)
-      ∙ sym (brings_seen spans mine)
-      ∙ sym (ap (map unreplied) (told one begin.counted))
-
   -- two outputs of one machine and one route
-  sends_so : (one other : Run) → AskedAlike contents failed n line_of g h settles one other → (number : ℕ) →
+  sends_so : (one other : Run) → BeginAlike contents failed n line_of g h settles one other → (number : ℕ) →
       sent contents failed n line_of g h settles other number ≡
       machine_sends n one.sinks.route number one.out.out (brought contents failed n line_of g h settles other)
   sends_so one other begin number =
@@ -197,12 +153,12 @@ module _ {N E F D Q : Type 0} (contents : D → Option Contents) (failed : D →
       ap (λ (r : Route). machine_sends n r number other.out.out ys) begin.route
       ∙ ap (λ (o : PlainOut N). machine_sends n one.sinks.route number o ys) begin.machine
 
-  asked_alike : (one other : Run) → AskedAlike contents failed n line_of g h settles one other → EndAlike contents failed n line_of g h settles one other
-  asked_alike one other begin =
+  alike : (one other : Run) → BeginAlike contents failed n line_of g h settles one other → EndAlike contents failed n line_of g h settles one other
+  alike one other begin =
       let o = one.out.out in
       let xs = brought contents failed n line_of g h settles one in
       let ys = brought contents failed n line_of g h settles other in
-      let same = brought_seen one other begin in
+      let same = begin.brings in
       end_alike one other (record {
         machine = ap (λ (p : PlainOut N). machine_run n p ys) begin.machine ∙ sym (run_unreplied n o ys)
             ∙ ap (machine_run n o) same ∙ run_unreplied n o xs;
@@ -220,6 +176,34 @@ module _ {N E F D Q : Type 0} (contents : D → Option Contents) (failed : D →
             (queued_by one number old new mine) (queued_by other number its same_too yours)
             mine.none.stayed mine.none.not_full yours.none.stayed yours.none.not_full waits).0;
       })
+
+  told : (r : Run) → IsCounted r.plain.skeleton →
+      brought contents failed n line_of g h settles r ≡
+      own_brings (spans_of contents failed n line_of g h settles r) (asked contents failed n line_of g h settles r)
+  told r count =
+      run_is n (sinks_of r) r.stack r.place r.out.number counted r.plain (turns_in contents failed n line_of g h settles r)
+      (spans_of contents failed n line_of g h settles r) count (known_first r.stack r.out.number r.plain.skeleton)
+      (slice_get-map (λ (o : Numbered N). o.number) (r.plain.outs r.stack) r.place
+      ∙ ap (option_map (λ (o : Numbered N). o.number)) r.output.machine)
+
+  asked_alike : (one other : Run) → AskedAlike contents failed n line_of g h settles one other → BeginAlike contents failed n line_of g h settles one other
+  asked_alike one other begin =
+      let mine = asked contents failed n line_of g h settles one in
+      let yours = asked contents failed n line_of g h settles other in
+      let spans = spans_of contents failed n line_of g h settles one in
+      let its_spans = spans_of contents failed n line_of g h settles other in
+      record {
+        machine = begin.machine;
+        route = begin.route;
+        brings = ap (map unreplied) (told other begin.also)
+            ∙ brings_seen its_spans yours
+            ∙ ap (λ (x : RegistryValue). own_brings x (map seen yours)) begin.spans
+            ∙ ap (own_brings spans) (asked_same begin.says [] yours mine begin.requests begin.other_says begin.one_says)
+            ∙ sym (brings_seen spans mine)
+            ∙ sym (ap (map unreplied) (told one begin.counted));
+        one_finds = begin.one_finds;
+        other_finds = begin.other_finds;
+      }
 
   pub isolated : Isolated contents failed n line_of g h settles
   isolated = record { follows = follows; told = told; alike = alike; asked_alike = asked_alike }

@@ -1,5 +1,5 @@
 -- What comes to an output, but for what queues answer.
-use Rattle.std.proofs.Common.{◌≡◌, ◌∙◌, ◌==◌, ℕ, Bool, true, false, List, [], ◌∷◌, ◌++◌, map, Option, refl, sym, ap, subst}
+use Rattle.std.proofs.Common.{◌≡◌, ◌∙◌, ◌==◌, ℕ, Bool, true, false, List, [], ◌∷◌, ◌++◌, map, refl, sym, ap, subst}
 use Rattle.std.specs.List.{AllByRecursion}
 use Rattle.std.proofs.lemmas.List.{map-append}
 use Rattle.tracing_core_moments.specs.declared.at.At.{At}
@@ -10,7 +10,7 @@ use Rattle.span_tracing_outputs.specs.OutputMachines.{Heard, Made, PlainLine, Pl
 use Rattle.span_tracing_outputs.specs.OutputNotices.{close_told, enter_told, event_told, exit_told, heards, span_told}
 use Rattle.span_tracing_outputs.specs.sinks.Routed.{sent_to}
 use Rattle.span_tracing_outputs.specs.sinks.Runs.{lines_at}
-use Rattle.span_tracing_outputs.specs.sinks.SinkTurns.{Asked, Came, SinkTurn, asked_if, came_in}
+use Rattle.span_tracing_outputs.specs.sinks.SinkTurns.{Asked, SinkTurn, asked_if, came_in}
 use Rattle.span_tracing_skeleton.specs.declared.call.Reply.{Reply}
 use Rattle.span_tracing_skeleton.specs.declared.call.Reply.TheVariants.{Done, Refused}
 use Rattle.span_tracing_skeleton.specs.declared.queue_call.QueueCall.{QueueCall}

@@ -1,5 +1,6 @@
 -- What folders that refuse calls and cut writes short leave of a run.
 use Rattle.std.specs.Prelude.{◌≡◌, ◌<◌, ◌-◌, ◌^◌, ℕ, List, [], ◌∷◌, ◌++◌, map, length, Option, Some, slice_get}
+use Rattle.std.specs.List.{AllByRecursion}
 use Rattle.tracing_core_fields.specs.requests.PlainRequests.{PlainEvent}
 use Rattle.tracing_core_moments.specs.declared.at.At.{At}
 use Rattle.tracing_core_moments.specs.declared.moment.Moment.{Moment}
@@ -24,12 +25,13 @@ use Rattle.span_tracing_outputs.specs.sinks.Routed.{Routed, sent_to}
 use Rattle.span_tracing_outputs.specs.sinks.Runs.{handed_in}
 use Rattle.span_tracing_outputs.specs.sinks.SinkTurns.{Asked, Came, QueueMeetsAll, SinkTurn}
 use Rattle.span_tracing_outputs.specs.declared.sinks.sink.RollingSink.{RollingSink}
+use Rattle.span_tracing_skeleton.specs.declared.call.Reply.{Reply}
 use Rattle.span_tracing_skeleton.specs.declared.call.Reply.TheVariants.{Refused}
 use Rattle.span_tracing_skeleton.specs.declared.queue_call.QueueCall.TheVariants.{Admit, Shutdown, Work}
 use Rattle.span_tracing_skeleton.specs.declared.refusal.Refusal.TheVariants.{OutOfMemory}
 use Rattle.span_tracing_steps.specs.States.{stack_in}
 use Rattle.span_tracing_laws.specs.isolation.IsolatedOutputs.{DirectOf, EndAlike, OneRun, brought, turns_in}
-use Rattle.span_tracing_laws.specs.isolation.OutputTurns.{filter_numbers}
+use Rattle.span_tracing_laws.specs.isolation.OutputTurns.{FindsMemory, filter_numbers, unreplied}
 use Rattle.span_tracing_laws.specs.runs.Files.{stack_sinks}
 use Rattle.span_tracing_laws.specs.runs.Runs.{Drove, Starved, StepWithMask, Waited, Went, lines_of, plain_run}
 
@@ -53,13 +55,13 @@ pub record PiecesStand (names : FileNames) (m : Moment) (opened now : Held) (lin
   pub current : current_of tries ≡ Some now.current
   pub bytes : (n : ℕ) → bytes_of now.contents.files n ≡ bytes_of opened.contents.files n ++ pieces_of pieces n
 
--- the same step with the same answers of filters; or a step that found no memory, or had to wait, in both; or a call on a queue that was
--- answered alike
+-- the same step with the same answers of filters; or a step that found no memory, or had to wait, in both; or the same call on a queue,
+-- whatever that answers
 abbrev pub TurnsAlike : StepWithMask → StepWithMask → Type 0
 TurnsAlike (Went step a fates) (Went other b others) = (step ≡ other) × (a ≡ b)
 TurnsAlike (Starved step) (Starved other) = step ≡ other
 TurnsAlike (Waited step) (Waited other) = step ≡ other
-TurnsAlike (Drove ask answer) (Drove other reply) = (ask ≡ other) × (answer ≡ reply)
+TurnsAlike (Drove ask answer) (Drove other reply) = ask ≡ other
 TurnsAlike t u = ⊥
 
 abbrev pub AllAlike : List StepWithMask → List StepWithMask → Type 0
@@ -67,6 +69,16 @@ AllAlike [] [] = Unit {0}
 AllAlike [] (u ∷ us) = ⊥
 AllAlike (t ∷ ts) [] = ⊥
 AllAlike (t ∷ ts) (u ∷ us) = TurnsAlike t u × AllAlike ts us
+
+-- the replies of two runs whose turns are alike are the same, but for those of queues
+abbrev pub ReplyAlike : StepWithMask → Reply → Reply → Type 0
+ReplyAlike (Drove ask answer) reply other = Unit {0}
+ReplyAlike t reply other = other ≡ reply
+
+abbrev pub RepliesAlike : List StepWithMask → List Reply → List Reply → Type 0
+RepliesAlike [] replies others = others ≡ replies
+RepliesAlike (t ∷ ts) (reply ∷ replies) (other ∷ others) = ReplyAlike t reply other × RepliesAlike ts replies others
+RepliesAlike ts replies others = ⊥
 
 -- how many sinks each output has
 abbrev pub sink_counts : {S : Type 0} → List (Routed S) → List ℕ
@@ -123,12 +135,16 @@ module _ {N E F D Q : Type 0} (contents : D → Option Contents) (failed : D →
         (is : OpenedAndHanded contents names m c opened lines a) → PiecesStand names m opened is.now lines
     -- what a queue answers, and what waits in it, doesn't depend on its folder
     pub answers : QueuesAnswerAlike contents failed
-    -- two runs of the same steps are answered alike, whatever their folders refuse, and so is each output told the same in both
-    pub replies : (one other : Run) → OneSkeleton one other → AllAlike (ts_in one) (ts_in other) → other.replies ≡ one.replies
+    -- two runs of the same steps are answered alike, but for what queues answer, whatever their folders refuse, and so is each output told
+    -- the same in both
+    pub replies : (one other : Run) → OneSkeleton one other → AllAlike (ts_in one) (ts_in other) →
+        RepliesAlike (ts_in one) one.replies other.replies
     pub skeleton : (one other : Run) → OneSkeleton one other → AllAlike (ts_in one) (ts_in other) →
         (plain_run n other.plain (ts_in other)).skeleton ≡ (plain_run n one.plain (ts_in one)).skeleton
     pub brings : (one other : Run) → OneSkeleton one other → AllAlike (ts_in one) (ts_in other) →
-        brought contents failed n line_of g h settles other ≡ brought contents failed n line_of g h settles one
-    -- so each sink that began alike in both ends alike
+        map unreplied (brought contents failed n line_of g h settles other) ≡ map unreplied (brought contents failed n line_of g h settles one)
+    -- So each sink that began alike in both ends alike, and its queue gives the same answers, where no call on one finds no memory.
     pub others : (one other : Run) → OneSkeleton one other → AllAlike (ts_in one) (ts_in other) → other.out.out ≡ one.out.out →
-        other.sinks.route ≡ one.sinks.route → EndAlike contents failed n line_of g h settles one other
+        other.sinks.route ≡ one.sinks.route → AllByRecursion FindsMemory (brought contents failed n line_of g h settles one) →
+        AllByRecursion FindsMemory (brought contents failed n line_of g h settles other) →
+        EndAlike contents failed n line_of g h settles one other

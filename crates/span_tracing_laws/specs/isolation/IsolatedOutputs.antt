@@ -32,7 +32,7 @@ use Rattle.span_tracing_skeleton.specs.declared.call.Reply.{Reply}
 use Rattle.span_tracing_steps.specs.States.{stack_in}
 use Rattle.span_tracing_laws.specs.isolation.OwnRequests.{OwnTurn, SaysBy, own_brings, own_registry, run_asks, unanswered}
 use Rattle.span_tracing_laws.specs.isolation.OutputTurns.{FindsMemory, OutputTurn, comings, machine_lines, machine_run, machine_sends}
-use Rattle.span_tracing_laws.specs.isolation.OutputTurns.{run_brings}
+use Rattle.span_tracing_laws.specs.isolation.OutputTurns.{run_brings, unreplied}
 use Rattle.span_tracing_laws.specs.runs.Files.{FileTrace, RunsToFiles, routed_at, sink_turns, stack_sinks}
 use Rattle.span_tracing_laws.specs.runs.Runs.{AgreesPlain, Plain, Road, StepWithMask, lines_of, plain_run}
 use Rattle.span_tracing_laws.specs.runs.StepFollows.{Traced}
@@ -131,16 +131,18 @@ module _ {N E F D Q : Type 0} (contents : D → Option Contents) (failed : D →
   abbrev pub spans_of : OneRun → RegistryValue
   spans_of r = own_registry r.out.number (registry_at r.plain.skeleton r.stack)
 
-  -- the outputs of two runs begin alike: the machines and the routes are equal, and so is what comes to them
+  -- The outputs of two runs begin alike: the machines and the routes are equal, and so is what comes to them, but for what queues answer. No
+  -- call on a queue finds no memory.
   pub record BeginAlike (one other : OneRun) : Type 0 where
     pub machine : other.out.out ≡ one.out.out
     pub route : other.sinks.route ≡ one.sinks.route
-    pub brought : brought other ≡ brought one
+    pub brings : map unreplied (brought other) ≡ map unreplied (brought one)
+    pub one_finds : AllByRecursion FindsMemory (brought one)
+    pub other_finds : AllByRecursion FindsMemory (brought other)
 
   -- The same, by what is asked of their stacks: the spans are equal as the outputs know them, and so is the one list of requests, of
   -- settings, and of calls on queues, but for what the outputs' filters say of new spans, and for what the queues answer. Of new spans both
-  -- filters say the same of the same, by what came before. No call on a queue finds no memory. Each stack is held by as many as it counts,
-  -- as in every trace.
+  -- filters say the same of the same, by what came before. Each stack is held by as many as it counts, as in every trace.
   pub record AskedAlike (one other : OneRun) : Type 0 where
     pub machine : other.out.out ≡ one.out.out
     pub route : other.sinks.route ≡ one.sinks.route
@@ -172,4 +174,4 @@ module _ {N E F D Q : Type 0} (contents : D → Option Contents) (failed : D →
     pub told : (r : OneRun) → IsCounted r.plain.skeleton → brought r ≡ own_brings (spans_of r) (asked r)
     -- of two
     pub alike : (one other : OneRun) → BeginAlike one other → EndAlike one other
-    pub asked_alike : (one other : OneRun) → AskedAlike one other → EndAlike one other
+    pub asked_alike : (one other : OneRun) → AskedAlike one other → BeginAlike one other
