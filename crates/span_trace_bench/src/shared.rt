@@ -34,27 +34,45 @@ struct Opened<T> {
     event: Identifier,
 }
 
-/// A trace over a folder, which is ready for its first step.
-fn open<D: Folder>(alloc: Global, folder: D) -> Result<Opened<Trace<LevelStack<D, NoLive>>>, Fault>
-    ensures { IfOk result (λ opened. TraceIsReady ⟦<LevelFilter as Filter>⟧ ⟦<Lines as span_registry_layers::Layer>⟧ opened.trace) }
+/// The callsites of the spans and of the events.
+struct Callsites {
+    outer: Identifier,
+    event: Identifier,
+}
+
+/// Registers the callsites. A ready trace stays so.
+fn register<D: Folder>(trace: &mut Trace<LevelStack<D, NoLive>>) -> Result<Callsites, Fault>
+    ensures { TraceIsReady ⟦<LevelFilter as Filter>⟧ ⟦<Lines as span_registry_layers::Layer>⟧ trace.old →
+        TraceIsReady ⟦<LevelFilter as Filter>⟧ ⟦<Lines as span_registry_layers::Layer>⟧ trace.new }
 {
-    leveled_outputs_are_honest::<D, NoLive>();
     sites_stay_ready::<
         Fields,
         Format<LineFormat, Timer>,
         LevelFilter,
         RoutedSinks<AnySink<D, NoLive>>,
     >();
+    let outer = Site::span(trace, "app", "outer", Level::INFO, &OUTER_FIELDS)?;
+    let event = Site::event(trace, "app", "event", Level::INFO, &EVENT_FIELDS)?;
+    Ok(Callsites {
+        outer: outer.identifier,
+        event: event.identifier,
+    })
+}
+
+/// A trace over a folder, which is ready for its first step.
+fn open<D: Folder>(alloc: Global, folder: D) -> Result<Opened<Trace<LevelStack<D, NoLive>>>, Fault>
+    ensures { IfOk result (λ opened. TraceIsReady ⟦<LevelFilter as Filter>⟧ ⟦<Lines as span_registry_layers::Layer>⟧ opened.trace) }
+{
+    leveled_outputs_are_honest::<D, NoLive>();
     let mut sinks = Vec::new(alloc);
     sinks.push(sink_of(alloc, Bench::Shared, folder, "shared"))?;
     let outputs = outputs_of(alloc, Bench::Shared, sinks)?;
     let mut trace = open_trace(alloc, outputs, OPENED)?;
-    let outer = Site::span(&mut trace, "app", "outer", Level::INFO, &OUTER_FIELDS)?;
-    let event = Site::event(&mut trace, "app", "event", Level::INFO, &EVENT_FIELDS)?;
+    let Callsites { outer, event } = register(&mut trace)?;
     Ok(Opened {
         trace,
-        outer: outer.identifier,
-        event: event.identifier,
+        outer,
+        event,
     })
 }
 

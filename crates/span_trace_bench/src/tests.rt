@@ -2,7 +2,6 @@
 
 use crate::bench::Bench;
 use crate::counting::CountingFolder;
-use crate::four::time_threads;
 use crate::live::time_live;
 use crate::program::{main_with, path_in};
 use crate::shared::time_shared;
@@ -103,20 +102,6 @@ fn calls_end_before_all_is_done(rt: HostRuntime) -> Result<(), Fail> {
         let (live, files) = timed.map_err(|_| "a time")?;
         assert!(rt; live.calls <= live.all);
         assert_eq!(rt; files.appender().folder().writes, 250);
-    }
-    Ok(())
-}
-
-/// Fewer than threads, and a number that they don't share evenly.
-#[test]
-fn threads_tell_each_event_once(rt: HostRuntime) -> Result<(), Fail> {
-    let alloc = rt.alloc();
-    for count in [0, 3, 250u64] {
-        let stage = counting_stage(alloc, Bench::DirectFile4, 0).map_err(|_| "a stage")?;
-        let told = time_threads(&rt, stage, count);
-        let (_times, stage) = told.map_err(|_| "a time")?;
-        let counted = stage.counted().map_err(|_| "a sum")?;
-        assert_eq!(rt; (counted.lines, counted.bytes), (count, 59 * count));
     }
     Ok(())
 }

@@ -3,7 +3,6 @@
 use crate::bench::Bench;
 use crate::counting::CountingFolder;
 use crate::fault::Fault;
-use crate::four::time_threads;
 use crate::lines::Lines;
 use crate::live::time_live;
 use crate::shared::time_shared;
@@ -96,10 +95,6 @@ pub(crate) fn time<R: Clock + AllocGlobal + Threads + Wait + Sync + Copy + Send 
     match bench {
         Bench::DirectFile => {
             time_on(rt, bench, count, stage_over(alloc, bench, folder, prefix)?)
-        }
-        Bench::DirectFile4 => {
-            let stage = stage_over(alloc, bench, folder, prefix)?;
-            Ok(time_threads(rt, stage, count)?.0)
         }
         Bench::Live | Bench::LiveAll => {
             Ok(time_live(rt, alloc, bench, count, folder, prefix)?.0)
