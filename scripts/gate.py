@@ -36,18 +36,15 @@ import ledger  # noqa: E402
 import promises  # noqa: E402
 import quick  # noqa: E402
 import real_files  # noqa: E402
-import service  # noqa: E402
 from kit import Crate, rt, rtlib  # noqa: E402
 
 LEDGER = "docs/edits.ledger"
 # What tasks took when a run was last measured, in seconds of one processor. Tasks are started by it, and nothing is decided by it.
 SECONDS = f"{os.path.dirname(os.path.realpath(__file__))}/seconds.json"
-# What runs a crate's tests, in the crate's folder.
-TESTS = [f"{os.path.dirname(os.path.realpath(__file__))}/unproved.py", "--test"]
-# Programs that are played in scenes with real directories.
-SCENES = {cases.PROGRAM: real_files, service.PROGRAM: service}
+# What runs a crate's tests, in the crate's folder. Some sweep over hundreds of runs.
+TESTS = [f"{os.path.dirname(os.path.realpath(__file__))}/unproved.py", "--test", "--seconds", "300"]
 # What READMEs show parts of: each of these is proved or run.
-EXAMPLES = ["crates/examples*/src/**/*.rt", "crates/uses/src/**/*.rt"]
+EXAMPLES = ["crates/examples/src/**/*.rt", "crates/uses/src/**/*.rt"]
 # What a line takes where nothing was measured, and a program's proof beside its lines: its types name every part below.
 A_LINE, A_PROGRAM = 0.045, 400
 
@@ -164,6 +161,8 @@ class Gate:
         self.seconds = json.loads(rtlib.text_of(SECONDS) or "{}")
         # the crates whose edits were looked at, so that the ledger's lines of all others stay
         self.seen = set()
+        below = {each.name for it in crates for each in it.below()}
+        self.memory = {it.name: lanes.MEMORY if it.name in below else lanes.MEMORY_OF_TOP for it in crates}
         for it in crates:
             it.kept = f"{room}/{it.name}"
 
@@ -180,17 +179,17 @@ class Gate:
             lines = sum(rtlib.text_of(file).count("\n") for file in rtlib.files_of(it.folder) if file.endswith((".rt", ".antt")))
             after = [(it.name, "proof")]
             work = self.seconds.get(it.name, A_LINE * lines + A_PROGRAM * it.is_program)
-            found[it.name, "proof"] = lanes.Task(below, work, lambda it=it: proof(it))
+            found[it.name, "proof"] = lanes.Task(below, work, lambda it=it: proof(it), self.memory[it.name])
             if it.is_program:
                 found[it.name, "program"] = lanes.Task(after, 40, lambda it=it: program(it))
             if it.name == cases.PROGRAM:
                 call = lambda it=it: cases.tried(cases.built(it), cases.sorted_out()[0])
                 found[it.name, "cases"] = lanes.Task([(it.name, "program")], 20, call)
+                call = lambda it=it: real_files.tried(cases.built(it))
+                found[it.name, "real files"] = lanes.Task([(it.name, "program")], 20, call)
                 if hostile.sample_of(it):
                     call = lambda it=it: hostile.tried(cases.built(it), hostile.sample_of(it))
                     found[it.name, "hostile input"] = lanes.Task([(it.name, "program")], 60, call)
-            if it.name in SCENES:
-                found[it.name, "real files"] = lanes.Task([(it.name, "program")], 20, lambda it=it: SCENES[it.name].tried(cases.built(it)))
             if it.has_tests():
                 call = tests_proved if self.how.tests == "prove" else tests_run
                 found[it.name, "tests"] = lanes.Task(after, 50, lambda it=it, call=call: call(it))
@@ -247,7 +246,7 @@ class Gate:
             crate.keeps = crate.keeps or bool(groups) and not self.is_late()
             for at, files in enumerate(groups, 1):
                 call = lambda files=files: self.judged(crate, files)
-                follow[name, f"edits {at}"] = lanes.Task([(name, "proof")], 25 * len(files), call)
+                follow[name, f"edits {at}"] = lanes.Task([(name, "proof")], 25 * len(files), call, self.memory[name])
         elif part == "edits" and it.is_well:
             for edit, (is_refused, text) in sorted((edit, came) for edit, came in it.gave.items() if came):
                 print(f"gate: must-fail {name}/{edit}: {text}")

@@ -13,14 +13,15 @@ import traceback
 import kit
 from kit import rtlib
 
-# What is run: `waits` names the tasks that have to end well before; `work` is a guess of its seconds; `call` does it.
-Task = collections.namedtuple("Task", "waits work call")
+# What a proof of a library was seen to take at most, in bytes, with what the system needs beside it; and one of a crate that no other stands on, whose
+# types name every part below.
+MEMORY, MEMORY_OF_TOP = 4_000_000_000, 9_000_000_000
+# What is run: `waits` names the tasks that have to end well before; `work` is a guess of its seconds; `call` does it, and takes so much `memory`.
+Task = collections.namedtuple("Task", "waits work call memory", defaults=[MEMORY])
 # What came of it: whether all is well, what the call gave, what it printed, and its seconds of processors and of the clock.
 Ended = collections.namedtuple("Ended", "is_well gave said cpu wall")
 
 PR_SET_PDEATHSIG = 1
-# What a proof of a library was seen to take at most, in bytes, with what the system needs beside it. One of a program takes up to half as much more.
-MEMORY = 4_000_000_000
 
 
 def processors():
@@ -85,6 +86,7 @@ class Run:
     def __init__(self, tasks, lanes, tell):
         self.tasks, self.lanes, self.tell = tasks, lanes, tell
         self.chain, self.left, self.running, self.ended = behind(tasks), [*tasks], {}, {}
+        self.memory = kit.rt.free()
 
     def end(self, key, it):
         """Tells what came of a task, and takes the tasks that follow from it."""
@@ -107,6 +109,9 @@ class Run:
             elif self.running and kit.rt.free() < MEMORY:
                 # what runs gives memory back when it ends
                 break
+            elif self.running and self.memory < self.tasks[key].memory + sum(self.tasks[it[0]].memory for it in self.running.values()):
+                # what runs may grow to what it takes at most; a smaller task may find room beside it
+                continue
             elif len(self.running) < self.lanes:
                 self.left.remove(key)
                 jobs, spare = (1 + spare, 0) if key[1] == "proof" else (1, spare)

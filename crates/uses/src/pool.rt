@@ -3,12 +3,11 @@ ghost use Rattle.std.specs.Prelude.{◌≡◌, ◌+◌, IfOk, OnOk};
 ghost use Rattle.span_tracing.specs.Books.{Replays};
 ghost use Rattle.span_tracing.specs.Entries.{plain_journal};
 
-use crate::stop::Stop;
 use span_tracing::{
-    CarriesOut, Clock, Closed, EventCall, FieldValue, Moment, NewSpanCall, OwnedValue, Parent,
-    Seat, Shared, Site, SpanCall, Step, SystemClock,
+    CallError, CarriesOut, Clock, Closed, EventCall, FieldValue, Moment, NewSpanCall, OwnedValue,
+    Parent, Seat, SeatError, Shared, Site, SpanCall, Step, SystemClock,
 };
-use std::alloc::{AllocError, AllocGlobal, Global};
+use std::alloc::{AllocError, AllocFailed, AllocGlobal, Global};
 use std::sync::Wait;
 use std::sync::atomic::{AtomicUsize, Ordering};
 use std::sync::ledger::{Blank, Ledger};
@@ -16,22 +15,59 @@ use std::thread::Threads;
 use std::{rt, thread};
 
 /// How many threads serve, each on a lane of its own.
-pub(crate) const THREADS: usize = 4;
+pub const THREADS: usize = 4;
 
-/// The callsites of the service.
+/// Why the jobs weren't served.
+#[derive(Clone, Copy, Debug, PartialEq, Eq)]
+pub enum PoolError {
+    /// There was no memory.
+    OutOfMemory,
+    /// There are fewer lanes or seats than threads.
+    NoSeat,
+    /// The trace refused a step.
+    Call(CallError),
+    /// The seats don't have the whole journal.
+    Torn,
+}
+
+impl From<AllocError> for PoolError {
+    fn from(_: AllocError) -> PoolError {
+        PoolError::OutOfMemory
+    }
+}
+
+impl<T: Drop> From<AllocFailed<T>> for PoolError {
+    fn from(_: AllocFailed<T>) -> PoolError {
+        PoolError::OutOfMemory
+    }
+}
+
+impl From<SeatError> for PoolError {
+    fn from(_: SeatError) -> PoolError {
+        PoolError::NoSeat
+    }
+}
+
+impl From<CallError> for PoolError {
+    fn from(error: CallError) -> PoolError {
+        PoolError::Call(error)
+    }
+}
+
+/// The callsites of the jobs.
 #[derive(Clone, Copy, Debug)]
-pub(crate) struct Sites {
+pub struct Sites {
     /// Spans of requests, with a job.
-    pub(crate) request: Site,
+    pub request: Site,
     /// Events with a message and a job.
-    pub(crate) told: Site,
+    pub told: Site,
 }
 
 /// A thread of the pool: the seat of its lane, and how its work ended.
 #[derive(Drop)]
 struct Worker<L: Ledger> {
     seat: Seat<L>,
-    ended: Result<(), Stop>,
+    ended: Result<(), PoolError>,
 }
 
 /// A job as the value of a field.
@@ -60,7 +96,7 @@ fn tell<L: Ledger, T: CarriesOut, R: AllocGlobal + Wait>(
     moment: Moment,
     site: Site,
     values: Vec<FieldValue>,
-) -> Result<(), Stop>
+) -> Result<(), PoolError>
     ensures lane { seat.new.lane ≡ seat.old.lane }
     ensures counted { OnOk result (seat.new.share.amount ≡ seat.old.share.amount + 1) }
 {
@@ -83,7 +119,7 @@ fn answer<L: Ledger, T: CarriesOut, R: AllocGlobal + Wait>(
     clock: &mut impl Clock,
     site: Site,
     job: u64,
-) -> Result<(), Stop>
+) -> Result<(), PoolError>
     ensures lane { seat.new.lane ≡ seat.old.lane }
     ensures counted { OnOk result (seat.new.share.amount ≡ seat.old.share.amount + 2) }
 {
@@ -102,7 +138,7 @@ fn serve<L: Ledger, T: CarriesOut, R: AllocGlobal + Wait>(
     clock: &mut impl Clock,
     sites: Sites,
     job: u64,
-) -> Result<(), Stop>
+) -> Result<(), PoolError>
     ensures { OnOk result (seat.new.share.amount ≡ seat.old.share.amount + 6) }
 {
     let lane = seat.lane();
@@ -133,7 +169,7 @@ fn work<L: Ledger, T: CarriesOut, R: AllocGlobal + rt::Clock + Wait + Copy + Dro
     sites: Sites,
     next: &AtomicUsize,
     jobs: &[u64],
-) -> Result<(), Stop> {
+) -> Result<(), PoolError> {
     let mut clock = SystemClock::new(*rt, Moment::EPOCH);
     for _ in jobs {
         match jobs.get(next.fetch_add(1, Ordering::SeqCst)) {
@@ -148,7 +184,7 @@ fn work<L: Ledger, T: CarriesOut, R: AllocGlobal + rt::Clock + Wait + Copy + Dro
 fn workers_of<L: Ledger, T: CarriesOut, R: AllocGlobal + Wait>(
     rt: &R,
     shared: &Shared<L, T>,
-) -> Result<Vec<Worker<L>>, Stop> {
+) -> Result<Vec<Worker<L>>, PoolError> {
     let mut workers = Vec::new(rt.alloc());
     for lane in 0..THREADS {
         let seat = shared.seat(rt, lane)?;
@@ -161,7 +197,7 @@ fn workers_of<L: Ledger, T: CarriesOut, R: AllocGlobal + Wait>(
 }
 
 /// The workers' seats, if each worker came to its end.
-fn seats_of<L: Ledger>(alloc: Global, workers: Vec<Worker<L>>) -> Result<Vec<Seat<L>>, Stop> {
+fn seats_of<L: Ledger>(alloc: Global, workers: Vec<Worker<L>>) -> Result<Vec<Seat<L>>, PoolError> {
     let mut seats = Vec::new(alloc);
     for worker in workers {
         worker.ended?;
@@ -176,18 +212,18 @@ fn seats_of<L: Ledger>(alloc: Global, workers: Vec<Worker<L>>) -> Result<Vec<Sea
 /// # Errors
 ///
 /// No memory, no seat, or what a thread came to. The trace is let go then.
-pub(crate) fn serve_all<
+pub fn serve_all<
     L: Ledger + Send + Sync,
     T: CarriesOut<Start: Send> + Send,
     R: AllocGlobal + rt::Clock + Threads + Wait + Copy + Drop + Sync,
->(rt: &R, blank: Blank, trace: T, sites: Sites, jobs: &[u64]) -> Result<Closed<T>, Stop>
+>(rt: &R, blank: Blank, trace: T, sites: Sites, jobs: &[u64]) -> Result<Closed<T>, PoolError>
     requires name { blank.name ≡ L.name }
     requires parts { (blank.parts ≡ L.parts) × (blank.parts ≡ 5) }
     requires ready { T.ready trace }
     ensures { IfOk result (λ closed. Replays (T.skeleton closed.trace) (T.copied closed.start) (plain_journal closed.journal.items)) }
 {
     let Ok(shared) = Shared::<L, T>::new(rt.alloc(), blank, 5, trace) else {
-        return Err(Stop::OutOfMemory);
+        return Err(PoolError::OutOfMemory);
     };
     let mut workers = workers_of(rt, &shared)?;
     let next = AtomicUsize::new(0);
@@ -202,6 +238,6 @@ pub(crate) fn serve_all<
     let seats = seats_of(rt.alloc(), workers)?;
     match shared.close(seats) {
         Ok(closed) => Ok(closed),
-        Err(_) => Err(Stop::Torn),
+        Err(_) => Err(PoolError::Torn),
     }
 }
