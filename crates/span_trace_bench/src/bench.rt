@@ -7,7 +7,7 @@ ghost use Rattle.span_trace_bench.specs.Names.{name_of, bench_named};
 use crate::fault::Fault;
 use crate::stage::{DETAIL, EVENT, NOISE, Stage};
 use event_formatter::{Json, LineFormat, Pretty};
-use span_tracing::Folder;
+use span_tracing::{Folder, LiveQueue};
 
 /// A bench.
 #[derive(Clone, Copy, Debug, PartialEq, Eq)]
@@ -18,6 +18,12 @@ pub enum Bench {
     EventText,
     /// Events in a span, to a folder of the system.
     DirectFile,
+    /// Events in a span, to a live queue with room for 128,000 lines, which drops what comes when it is full.
+    Live,
+    /// Events in a span, to a live queue with room for all of them.
+    LiveAll,
+    /// Events in a span, as steps of a trace that keeps a journal of its steps.
+    Shared,
     /// Events in a span, through two outputs in the full format, each to a folder that only counts.
     TwoOutputs,
     /// Events in a span, in JSON, to a folder that only counts.
@@ -56,10 +62,13 @@ pub enum Bench {
     FormatJson,
 }
 
-/// The benches that need no folder of the system.
-pub(crate) const IN_MEMORY: [Bench; 20] = [
+/// The benches whose sums are shown: all but the one that differs from another by its folder alone.
+pub(crate) const SHOWN: [Bench; 23] = [
     Bench::DirectMemory,
     Bench::EventText,
+    Bench::Live,
+    Bench::LiveAll,
+    Bench::Shared,
     Bench::TwoOutputs,
     Bench::JsonMemory,
     Bench::Queued,
@@ -89,6 +98,9 @@ impl Bench {
             "direct_memory" => Some(Bench::DirectMemory),
             "event_text" => Some(Bench::EventText),
             "direct_file" => Some(Bench::DirectFile),
+            "live" => Some(Bench::Live),
+            "live_all" => Some(Bench::LiveAll),
+            "shared" => Some(Bench::Shared),
             "two_outputs" => Some(Bench::TwoOutputs),
             "json_memory" => Some(Bench::JsonMemory),
             "queued" => Some(Bench::Queued),
@@ -119,6 +131,9 @@ impl Bench {
             Bench::DirectMemory => "direct_memory",
             Bench::EventText => "event_text",
             Bench::DirectFile => "direct_file",
+            Bench::Live => "live",
+            Bench::LiveAll => "live_all",
+            Bench::Shared => "shared",
             Bench::TwoOutputs => "two_outputs",
             Bench::JsonMemory => "json_memory",
             Bench::Queued => "queued",
@@ -173,7 +188,11 @@ impl Bench {
     }
 
     /// Opens the spans that are open before the time begins: `many` beside the others, where the bench has many.
-    pub(crate) fn prepare<D: Folder>(self, stage: &mut Stage<D>, many: u64) -> Result<(), Fault> {
+    pub(crate) fn prepare<D: Folder, Q: LiveQueue>(
+        self,
+        stage: &mut Stage<D, Q>,
+        many: u64,
+    ) -> Result<(), Fault> {
         match self {
             Bench::Depth64 => stage.nest(64),
             Bench::Open10k => {
@@ -194,7 +213,11 @@ impl Bench {
     }
 
     /// Makes the calls that are timed.
-    pub(crate) fn run<D: Folder>(self, stage: &mut Stage<D>, count: u64) -> Result<(), Fault> {
+    pub(crate) fn run<D: Folder, Q: LiveQueue>(
+        self,
+        stage: &mut Stage<D, Q>,
+        count: u64,
+    ) -> Result<(), Fault> {
         match self {
             Bench::Never => stage.tell(DETAIL, count),
             Bench::NeverSkipped => stage.skip(DETAIL, count),

@@ -2,7 +2,7 @@
 
 ghost use Rattle.std.specs.Prelude.{◌≡◌, ◌≤◌};
 
-use span_tracing::{CallError, Refusal};
+use span_tracing::{CallError, OpenStackError, Refusal, SeatError};
 use std::alloc::{AllocError, AllocFailed};
 use std::io::{Error, Write};
 
@@ -35,6 +35,18 @@ impl<T: Drop> From<AllocFailed<T>> for Fault {
 impl From<Refusal> for Fault {
     fn from(refusal: Refusal) -> Fault {
         Fault::Refused(refusal)
+    }
+}
+
+impl From<OpenStackError> for Fault {
+    fn from(error: OpenStackError) -> Fault {
+        Fault::Refused(error.refusal)
+    }
+}
+
+impl From<SeatError> for Fault {
+    fn from(_: SeatError) -> Fault {
+        Fault::OddReply
     }
 }
 

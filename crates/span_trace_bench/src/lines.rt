@@ -1,5 +1,6 @@
 //! An output of the formatter in a stack of its own, whose lines are timed.
 
+use crate::counting::CountingFolder;
 use crate::fault::Fault;
 use event_formatter::{Fields, Format, Layer, LineFormat, MakeWriter, Timer, format, layer, time};
 use span_registry_layers::{Filtered, Output, OutputKey, Stack};
@@ -16,6 +17,14 @@ const KEY: OutputKey = OutputKey(0);
 pub(crate) struct Counter {
     pub(crate) bytes: u64,
     pub(crate) lines: u64,
+}
+
+impl Counter {
+    /// Counts what came to a folder too, where each line is a write.
+    pub(crate) fn add(&mut self, folder: &CountingFolder) {
+        self.bytes = self.bytes.saturating_add(folder.bytes);
+        self.lines = self.lines.saturating_add(folder.writes);
+    }
 }
 
 impl MakeWriter for Counter {

@@ -5,12 +5,17 @@ mod bench;
 mod counting;
 mod fault;
 mod lines;
+mod live;
 mod program;
+mod shared;
 mod stack;
 mod stage;
+mod sums;
+mod times;
+mod timing;
 
 pub use bench::Bench;
-pub use program::main_with;
+pub use program::{main_with, path_in};
 
 #[cfg(test)]
 mod tests;
@@ -19,6 +24,7 @@ use std::alloc::AllocError;
 use std::io::ErrorKind;
 use std::process::ExitCode;
 use std::{env, io};
+use tracing_appender_rolling::DiskFolder;
 
 /// The words behind the program's name; none where some word is no text.
 fn words_of(rt: &HostRuntime) -> Result<Vec<String>, AllocError> {
@@ -39,9 +45,11 @@ fn main(rt: HostRuntime) -> ExitCode {
     let Ok(words) = words_of(&rt) else {
         return ExitCode::from(4);
     };
+    let folder = DiskFolder::new(rt, path_in(words.as_slice()));
     let status = main_with(
         &rt,
         words.as_slice(),
+        folder,
         &mut io::writer(&rt),
         &mut rt.stderr(),
     );

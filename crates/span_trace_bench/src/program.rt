@@ -3,27 +3,15 @@
 ghost use Rattle.std.specs.Prelude.{◌≡◌, ◌≤◌, Err, map, string_bytes, false};
 ghost use Rattle.span_trace_bench.specs.Names.{asks_bench};
 
-use crate::bench::{Bench, IN_MEMORY};
-use crate::counting::CountingFolder;
+use crate::bench::Bench;
 use crate::fault::Fault;
-use crate::lines::Lines;
-use crate::stage::Stage;
-use event_formatter::LineFormat;
-use span_tracing::Folder;
-use std::alloc::Global;
+use crate::sums::write_sums;
+use crate::timing::time;
 use std::io::Write;
-use std::rt::{Clock, Files};
-use std::time::Instant;
+use std::rt::Clock;
+use std::sync::Wait;
+use std::thread::Threads;
 use tracing_appender_rolling::DiskFolder;
-
-/// How often a bench's calls are made where only sums are shown.
-const SMALL: u64 = 3;
-
-/// How many other spans are open in the benches that have many, where their time is taken.
-const MANY: u64 = 10_000;
-
-/// The same where only sums are shown.
-const FEW: u64 = 100;
 
 /// The folder of a file's path, and the file's name.
 fn parts_of(path: &str) -> (&str, &str) {
@@ -34,122 +22,45 @@ fn parts_of(path: &str) -> (&str, &str) {
     }
 }
 
-/// A folder that only counts for each output of the bench.
-fn counting_folders(alloc: Global, bench: Bench) -> Result<Vec<CountingFolder>, Fault> {
-    let mut folders = Vec::new(alloc);
-    for _ in 0..bench.output_count() {
-        folders.push(CountingFolder::new(alloc))?;
+/// The path of the folder of the file that the words name. Where they name none, that of the current one.
+pub fn path_in(words: &[String]) -> &str {
+    match words {
+        [_, _, _, file] => parts_of(file.as_str()).0,
+        _ => ".",
     }
-    Ok(folders)
 }
 
-/// The nanoseconds that a bench's calls take.
-fn time_over<R: Clock, D: Folder>(
-    rt: &R,
-    alloc: Global,
-    bench: Bench,
-    count: u64,
-    folders: Vec<D>,
-    prefix: &str,
-) -> Result<u128, Fault> {
-    let mut stage = Stage::new(alloc, bench, folders, prefix)?;
-    bench.prepare(&mut stage, MANY)?;
-    let start = Instant::now(rt)?;
-    bench.run(&mut stage, count)?;
-    Ok(start.elapsed(rt)?.as_nanos())
-}
-
-/// The nanoseconds that the lines of a stack by itself take.
-fn time_lines<R: Clock>(
-    rt: &R,
-    alloc: Global,
-    shape: LineFormat,
-    count: u64,
-) -> Result<u128, Fault> {
-    let mut lines = Lines::new(alloc, shape)?;
-    let start = Instant::now(rt)?;
-    lines.tell(count)?;
-    Ok(start.elapsed(rt)?.as_nanos())
-}
-
-/// Times a bench, and writes its name, the count, and twice the nanoseconds: no call leaves work behind.
-fn write_time<R: Files + Clock + AllocGlobal + Clone + Drop, W: Write>(
+/// Times a bench, and writes its name, the count, and the nanoseconds until the last call came back and until nothing was left to do.
+fn write_time<
+    R: Clock + AllocGlobal + Threads + Wait + Sync + Copy + Send + Drop + 'static,
+    W: Write,
+>(
     rt: &R,
     bench: Bench,
     count: u64,
+    folder: DiskFolder<HostRuntime>,
     file: &str,
     output: &mut W,
 ) -> Result<(), Fault> {
-    let alloc = rt.alloc();
-    let (path, prefix) = parts_of(file);
-    let nanoseconds = if bench == Bench::DirectFile {
-        let mut folders = Vec::new(alloc);
-        folders.push(DiskFolder::new(rt.clone()?, path))?;
-        time_over(rt, alloc, bench, count, folders, prefix)?
-    } else if let Some(shape) = bench.line_format() {
-        time_lines(rt, alloc, shape, count)?
-    } else {
-        let folders = counting_folders(alloc, bench)?;
-        time_over(rt, alloc, bench, count, folders, prefix)?
-    };
+    let times = time(rt, bench, count, folder, parts_of(file).1)?;
     let name = bench.name();
-    writeln!(output, "{name} {count} {nanoseconds} {nanoseconds}")?;
-    Ok(())
-}
-
-/// Makes a bench's calls a few times, and writes its name, the bytes and the lines that were handed over, and how many
-/// spans were made.
-fn write_sum<W: Write>(alloc: Global, bench: Bench, output: &mut W) -> Result<(), Fault> {
-    let folders = counting_folders(alloc, bench)?;
-    let mut stage = Stage::new(alloc, bench, folders, "sums")?;
-    bench.prepare(&mut stage, FEW)?;
-    bench.run(&mut stage, SMALL)?;
-    let counted = stage.counted()?;
-    let name = bench.name();
-    let bytes = counted.bytes;
-    let lines = counted.lines;
-    let spans = stage.spans;
-    writeln!(output, "{name} {bytes} {lines} {spans}")?;
-    Ok(())
-}
-
-/// The same of the lines of a stack by itself, in which one span is made.
-fn write_line_sum<W: Write>(
-    alloc: Global,
-    bench: Bench,
-    shape: LineFormat,
-    output: &mut W,
-) -> Result<(), Fault> {
-    let mut stage = Lines::new(alloc, shape)?;
-    stage.tell(SMALL)?;
-    let counted = stage.counted()?;
-    let name = bench.name();
-    let bytes = counted.bytes;
-    let lines = counted.lines;
-    writeln!(output, "{name} {bytes} {lines} 1")?;
-    Ok(())
-}
-
-fn write_sums<W: Write>(alloc: Global, output: &mut W) -> Result<(), Fault> {
-    for bench in IN_MEMORY {
-        match bench.line_format() {
-            Some(shape) => write_line_sum(alloc, bench, shape, output)?,
-            None => write_sum(alloc, bench, output)?,
-        }
-    }
+    let calls = times.calls;
+    let all = times.all;
+    writeln!(output, "{name} {count} {calls} {all}")?;
     Ok(())
 }
 
 /// Does what the words ask for.
-fn answer<R: Files + Clock + AllocGlobal + Clone + Drop, W: Write>(
+fn answer<R: Clock + AllocGlobal + Threads + Wait + Sync + Copy + Send + Drop + 'static, W: Write>(
     rt: &R,
     words: &[String],
+    folder: DiskFolder<HostRuntime>,
     output: &mut W,
 ) -> Result<(), Fault>
     ensures { asks_bench (map string_bytes words.now) ≡ false → (result ≡ Err Fault.Usage) × (output.new ≡ output.old) }
 {
     match words {
-        [] => write_sums(rt.alloc(), output),
+        [] => write_sums(rt, output),
         [word, name, count, file] if word.as_str() == "bench" => {
             let Some(bench) = Bench::named(name.as_str()) else {
                 return Err(Fault::Usage);
@@ -157,7 +68,7 @@ fn answer<R: Files + Clock + AllocGlobal + Clone + Drop, W: Write>(
             let Ok(count) = count.as_str().parse::<u64>() else {
                 return Err(Fault::Usage);
             };
-            write_time(rt, bench, count, file.as_str(), output)
+            write_time(rt, bench, count, folder, file.as_str(), output)
         }
         _ => Err(Fault::Usage),
     }
@@ -165,17 +76,16 @@ fn answer<R: Files + Clock + AllocGlobal + Clone + Drop, W: Write>(
 
 /// Runs the program on its words, and gives its status.
 ///
-/// The words `bench NAME COUNT FILE` time a bench; no words show what each bench that needs no folder of the system
-/// hands over.
+/// The words `bench NAME COUNT FILE` time a bench, whose files stand in the folder if it has any: `path_in` says which folder is that of
+/// FILE. No words show what each bench hands over, to folders that only count.
 ///
 /// 0: done. 1: the trace refused a call. 2: the words are other ones, or the name is no bench's. 3: a call answered
 /// oddly. 4: there was no memory. 5: the clock or the output refused.
-pub fn main_with<R: Files + Clock + AllocGlobal + Clone + Drop, W: Write, E: Write>(
-    rt: &R,
-    words: &[String],
-    output: &mut W,
-    errors: &mut E,
-) -> u8
+pub fn main_with<
+    R: Clock + AllocGlobal + Threads + Wait + Sync + Copy + Send + Drop + 'static,
+    W: Write,
+    E: Write,
+>(rt: &R, words: &[String], folder: DiskFolder<HostRuntime>, output: &mut W, errors: &mut E) -> u8
     ensures range { result ≤ 5 }
 
     // Any words but none, or `bench` with a bench's name, a count and a file, give status 2.
@@ -183,7 +93,7 @@ pub fn main_with<R: Files + Clock + AllocGlobal + Clone + Drop, W: Write, E: Wri
     // With such words nothing is written to the output.
     ensures quiet { asks_bench (map string_bytes words.now) ≡ false → output.new ≡ output.old }
 {
-    match answer(rt, words, output) {
+    match answer(rt, words, folder, output) {
         Ok(()) => 0,
         Err(fault) => {
             fault.tell(errors);

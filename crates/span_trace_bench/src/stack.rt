@@ -4,8 +4,8 @@ use crate::bench::Bench;
 use crate::fault::Fault;
 use crate::lines::fields_of;
 use span_tracing::{
-    Builder, FileStack, Folder, LineSettings, Moment, OutputKey, OutputSpec, Rotation, Route,
-    SinkSpec, open_stack,
+    Builder, FileStack, Folder, LineSettings, LiveQueue, Moment, NoLive, OutputKey, OutputSpec,
+    Rotation, Route, SinkSpec, open_stack,
 };
 use std::alloc::Global;
 use tracing_core::LevelFilter;
@@ -17,27 +17,42 @@ pub(crate) const OPENED: Moment = Moment {
 };
 
 /// Outputs under levels.
-pub(crate) type LevelStack<D> = FileStack<LevelFilter, D>;
+pub(crate) type LevelStack<D, Q> = FileStack<LevelFilter, D, Q>;
 
-/// An output to INFO, whose lines have the time of their moment and their level, and go to a file for each day in the folder, whose
-/// name begins with the prefix.
-fn output_of<D: Folder>(
+/// How an output is to be.
+pub(crate) type LevelSpec<D, Q> = OutputSpec<LevelFilter, D, Q>;
+
+/// A file for each day, whose name begins with the prefix.
+pub(crate) fn files_of(alloc: Global, prefix: &str) -> Builder {
+    Builder::new(alloc)
+        .rotation(Rotation::DAILY)
+        .filename_prefix(prefix)
+}
+
+/// A sink of the bench to files in the folder.
+pub(crate) fn sink_of<D: Folder>(
     alloc: Global,
-    key: u32,
     bench: Bench,
     folder: D,
     prefix: &str,
-) -> Result<OutputSpec<LevelFilter, D>, Fault> {
-    let shape = bench.trace_format();
-    let builder = Builder::new(alloc)
-        .rotation(Rotation::DAILY)
-        .filename_prefix(prefix);
-    let mut sinks = Vec::new(alloc);
-    let sink = if bench.is_queued() {
+) -> SinkSpec<D, NoLive> {
+    let builder = files_of(alloc, prefix);
+    if bench.is_queued() {
         SinkSpec::Queued(builder, folder, 128_000, true)
     } else {
         SinkSpec::Direct(builder, folder)
-    };
+    }
+}
+
+/// An output to INFO, whose lines have the time of their moment and their level, and go to the sink.
+fn output_of<D: Folder, Q: LiveQueue>(
+    alloc: Global,
+    key: u32,
+    bench: Bench,
+    sink: SinkSpec<D, Q>,
+) -> Result<LevelSpec<D, Q>, Fault> {
+    let shape = bench.trace_format();
+    let mut sinks = Vec::new(alloc);
     sinks.push(sink)?;
     let lines = LineSettings {
         format: shape,
@@ -50,18 +65,27 @@ fn output_of<D: Folder>(
     )
 }
 
-/// A stack with an output of the bench for each folder, under a key of its own.
-pub(crate) fn stack_over<D: Folder>(
+/// An output of the bench for each sink, under a key of its own.
+pub(crate) fn outputs_of<D: Folder, Q: LiveQueue>(
     alloc: Global,
     bench: Bench,
-    folders: Vec<D>,
-    prefix: &str,
-) -> Result<LevelStack<D>, Fault> {
+    sinks: Vec<SinkSpec<D, Q>>,
+) -> Result<Vec<LevelSpec<D, Q>>, Fault> {
     let mut outputs = Vec::new(alloc);
     let mut key: u32 = 0;
-    for folder in folders {
-        outputs.push(output_of(alloc, key, bench, folder, prefix)?)?;
+    for sink in sinks {
+        outputs.push(output_of(alloc, key, bench, sink)?)?;
         key = key.saturating_add(1);
     }
+    Ok(outputs)
+}
+
+/// A stack with an output of the bench for each sink.
+pub(crate) fn stack_over<D: Folder, Q: LiveQueue>(
+    alloc: Global,
+    bench: Bench,
+    sinks: Vec<SinkSpec<D, Q>>,
+) -> Result<LevelStack<D, Q>, Fault> {
+    let outputs = outputs_of(alloc, bench, sinks)?;
     open_stack(alloc, outputs, OPENED).map_err(|refused| Fault::Refused(refused.refusal))
 }

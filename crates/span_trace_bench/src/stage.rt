@@ -6,7 +6,9 @@ use crate::fault::Fault;
 use crate::lines::Counter;
 use crate::stack::{LevelStack, OPENED, stack_over};
 use span_tracing::value::{AnyValue, Lend, LentValue};
-use span_tracing::{Folder, Moment, Parent, Reply, Site, SpanName, Trace, event};
+use span_tracing::{
+    Folder, LiveQueue, Moment, NoLive, Parent, Reply, SinkSpec, Site, SpanName, Trace, event,
+};
 use std::alloc::Global;
 use std::num::NonZeroU64;
 use tracing_core::{FieldSet, Identifier, Kind, Level, LevelFilter, Metadata};
@@ -23,11 +25,11 @@ pub(crate) const DETAIL: Identifier = Identifier(3);
 /// Makes events of level TRACE, in which nobody is interested.
 pub(crate) const NOISE: Identifier = Identifier(4);
 
-const OUTER_FIELDS: [&str; 1] = ["x"];
+pub(crate) const OUTER_FIELDS: [&str; 1] = ["x"];
 
-const EVENT_FIELDS: [&str; 2] = ["message", "n"];
+pub(crate) const EVENT_FIELDS: [&str; 2] = ["message", "n"];
 
-const LANE: usize = 0;
+pub(crate) const LANE: usize = 0;
 
 /// The value of the field that spans have.
 const OUTER_VALUES: [LentValue<'static>; 1] = [LentValue {
@@ -37,20 +39,20 @@ const OUTER_VALUES: [LentValue<'static>; 1] = [LentValue {
 
 /// A trace, and how many spans it made.
 #[derive(Drop)]
-pub(crate) struct Stage<D: Folder> {
-    trace: Trace<LevelStack<D>>,
+pub(crate) struct Stage<D: Folder, Q: LiveQueue> {
+    trace: Trace<LevelStack<D, Q>>,
     pub(crate) spans: u64,
 }
 
 /// The moment i microseconds behind the whole second, or as many as are left of whole seconds.
-fn moment_at(i: u64) -> Moment {
+pub(crate) fn moment_at(i: u64) -> Moment {
     Moment {
         seconds: OPENED.seconds,
         nanoseconds: (i % 1_000_000) as u32 * 1_000,
     }
 }
 
-fn done(reply: Reply) -> Result<(), Fault> {
+pub(crate) fn done(reply: Reply) -> Result<(), Fault> {
     match reply {
         Reply::Done => Ok(()),
         Reply::Refused(refusal) => Err(Fault::Refused(refusal)),
@@ -58,7 +60,7 @@ fn done(reply: Reply) -> Result<(), Fault> {
     }
 }
 
-fn made(reply: Reply) -> Result<SpanName, Fault> {
+pub(crate) fn made(reply: Reply) -> Result<SpanName, Fault> {
     match reply {
         Reply::Span(Some(name)) => Ok(name),
         Reply::Refused(refusal) => Err(Fault::Refused(refusal)),
@@ -94,10 +96,10 @@ fn metadata<'a>(
 }
 
 /// A trace with this stack.
-fn trace_over<D: Folder>(
+fn trace_over<D: Folder, Q: LiveQueue>(
     alloc: Global,
-    stack: LevelStack<D>,
-) -> Result<Trace<LevelStack<D>>, Fault> {
+    stack: LevelStack<D, Q>,
+) -> Result<Trace<LevelStack<D, Q>>, Fault> {
     let mut trace = Trace::new(alloc);
     match trace.add_stack(stack) {
         Ok(_) => Ok(trace),
@@ -105,16 +107,15 @@ fn trace_over<D: Folder>(
     }
 }
 
-impl<D: Folder> Stage<D> {
-    /// A trace with one lane that reaches an output of the bench into each folder, all levels to INFO.
+impl<D: Folder, Q: LiveQueue> Stage<D, Q> {
+    /// A trace with one lane that reaches an output of the bench into each sink, all levels to INFO.
     pub(crate) fn new(
         alloc: Global,
         bench: Bench,
-        folders: Vec<D>,
-        prefix: &str,
-    ) -> Result<Stage<D>, Fault> {
+        sinks: Vec<SinkSpec<D, Q>>,
+    ) -> Result<Stage<D, Q>, Fault> {
         let mut stage = Stage {
-            trace: trace_over(alloc, stack_over(alloc, bench, folders, prefix)?)?,
+            trace: trace_over(alloc, stack_over(alloc, bench, sinks)?)?,
             spans: 0,
         };
         stage.register()?;
@@ -203,24 +204,34 @@ impl<D: Folder> Stage<D> {
         Ok(())
     }
 
-    /// Tells of events, whose second field is their number mod 10.
+    /// Tells of an event on a lane, whose second field is its number mod 10.
+    pub(crate) fn tell_one(
+        &mut self,
+        lane: usize,
+        callsite: Identifier,
+        i: u64,
+    ) -> Result<(), Fault> {
+        let values = [
+            LentValue {
+                field: 0,
+                value: AnyValue::Str("hi"),
+            },
+            LentValue {
+                field: 1,
+                value: AnyValue::U64(i % 10),
+            },
+        ];
+        let parent = Parent::Contextual;
+        done(
+            self.trace
+                .event(lane, moment_at(i), callsite, parent, &values),
+        )
+    }
+
+    /// Tells of events, one after another.
     pub(crate) fn tell(&mut self, callsite: Identifier, count: u64) -> Result<(), Fault> {
         for i in 0..count {
-            let values = [
-                LentValue {
-                    field: 0,
-                    value: AnyValue::Str("hi"),
-                },
-                LentValue {
-                    field: 1,
-                    value: AnyValue::U64(i % 10),
-                },
-            ];
-            let parent = Parent::Contextual;
-            done(
-                self.trace
-                    .event(LANE, moment_at(i), callsite, parent, &values),
-            )?;
+            self.tell_one(LANE, callsite, i)?;
         }
         Ok(())
     }
@@ -284,23 +295,26 @@ impl<D: Folder> Stage<D> {
     }
 }
 
-impl Stage<CountingFolder> {
+/// What a trace handed over to all its folders.
+pub(crate) fn counted(trace: &Trace<LevelStack<CountingFolder, NoLive>>) -> Result<Counter, Fault> {
+    let Some(stack) = trace.stack(0) else {
+        return Err(Fault::OddReply);
+    };
+    let mut counted = Counter { bytes: 0, lines: 0 };
+    for routed in stack.sinks() {
+        for sink in routed.sinks() {
+            let Some(appender) = sink.appender() else {
+                return Err(Fault::OddReply);
+            };
+            counted.add(appender.folder());
+        }
+    }
+    Ok(counted)
+}
+
+impl Stage<CountingFolder, NoLive> {
     /// What was handed over to all folders.
     pub(crate) fn counted(&self) -> Result<Counter, Fault> {
-        let Some(stack) = self.trace.stack(0) else {
-            return Err(Fault::OddReply);
-        };
-        let mut counted = Counter { bytes: 0, lines: 0 };
-        for routed in stack.sinks() {
-            for sink in routed.sinks() {
-                let Some(appender) = sink.appender() else {
-                    return Err(Fault::OddReply);
-                };
-                let folder = appender.folder();
-                counted.bytes = counted.bytes.saturating_add(folder.bytes);
-                counted.lines = counted.lines.saturating_add(folder.writes);
-            }
-        }
-        Ok(counted)
+        counted(&self.trace)
     }
 }
