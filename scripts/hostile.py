@@ -17,8 +17,8 @@ import tty
 
 from kit import rt, rtlib
 
-# What each status says: all was done; a step was refused; the input isn't readable or refused; there was no memory. No folder is asked here that refuses.
-DONE, REFUSED, UNREADABLE, NO_MEMORY = 0, 1, 2, 4
+# What each status says: all was done; a step was refused; the input isn't readable or refused; a folder refused; there was no memory.
+DONE, REFUSED, UNREADABLE, NO_FOLDER, NO_MEMORY = 0, 1, 2, 3, 4
 # A run may take so many bytes of memory, and so many for each byte of its input.
 ROOM, ROOM_A_BYTE = 64 << 20, 8
 # Runs side by side.
@@ -34,7 +34,7 @@ def ended(program, given, **how):
 
 def wrong_of(ran):
     """Returns what is wrong with how a run ended, whatever its input was, or nothing."""
-    if ran.returncode not in (DONE, REFUSED, UNREADABLE):
+    if ran.returncode not in (DONE, REFUSED, UNREADABLE, NO_FOLDER):
         return f"it ended with status {ran.returncode}, and told {ran.stderr[:200]!r}"
     if ran.returncode in (DONE, REFUSED):
         return f"it did all, and told {ran.stderr[:200]!r}" if ran.stderr else ""
@@ -219,22 +219,13 @@ def wrong_without_memory(program, given, whole, ran):
         del replies[new[0]]
         return "" if (replies, files) == (replies_without, files_without) else f"step {new[0]} found no memory, and changed {replies!r:.300} and {files!r:.300}"
     if b'"queue"' in given or b'"max_files"' in given:
-        # A line that is missing makes room in a queue for another one, and retention keeps a file the longer. So it stands beside a run that keeps all.
-        _, all_files = parts_of(ended(program, without_queues(given)))
-    elif replies != all_replies:
+        # a line that is missing makes room in a queue for another one, and retention keeps a file the longer
+        return ""
+    if replies != all_replies:
         return f"it answered {replies!r:.300}"
     less, more = texts_of(files), texts_of(all_files)
     odd = [it for it in less if not stands_in(less[it], more.get(it, ""))]
     return f"the files of folder {odd[0]} have {less[odd[0]]!r:.300}" if odd else ""
-
-
-def without_queues(given):
-    """Returns the input with each sink direct, and without retention: what came to a sink then stands in its files."""
-    lines = [json.loads(it) for it in given.splitlines()]
-    for sink in (sink for line in lines for output in line.get("outputs", ()) for sink in output["sinks"]):
-        sink.pop("queue", None)
-        sink.pop("max_files", None)
-    return b"".join(json.dumps(it).encode() + b"\n" for it in lines)
 
 
 def texts_of(files):
