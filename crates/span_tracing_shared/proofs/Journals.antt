@@ -1,5 +1,6 @@
 -- Journals that grow, and what they leave.
 use Rattle.std.proofs.Common.{◌≡◌, ℕ, ◌++◌, List, [], ◌∷◌, filter, refl, ap, sym, ◌∙◌, Bool, true, false}
+use Rattle.std.specs.Arc.{arc_value}
 use Rattle.std.proofs.lemmas.List.{map-append}
 use Rattle.span_tracing_skeleton.specs.PlainData.{AnyStep, any_step}
 use Rattle.span_tracing_skeleton.specs.Skeleton.{Skeleton}
@@ -62,7 +63,7 @@ entry lane step reply mask = record { lane = lane; step = step; reply = reply; m
 
 -- the entry says what was done
 pub entered : (before reserved later : List Entry) (e : Entry) (step : AnyStep) (reply : Reply) → later ≡ reserved ++ e ∷ [] →
-    reserved ≡ before → any_step e.step ≡ step → e.reply ≡ reply →
+    reserved ≡ before → any_step (arc_value e.step) ≡ step → e.reply ≡ reply →
     plain_journal later ≡ plain_journal before ++ entry e.lane step reply e.mask ∷ []
 entered before reserved later e step reply pushed same kept given =
     ap plain_journal (pushed ∙ ap (λ es. es ++ e ∷ []) same)

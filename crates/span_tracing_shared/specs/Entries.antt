@@ -1,4 +1,5 @@
 -- Entries of a journal, and calls of a seat, as plain data.
+use Rattle.std.specs.Arc.{arc_value}
 use Rattle.std.specs.Prelude.{ℕ, List, [], ◌∷◌, map, ◌==◌, if◌then◌else◌}
 use Rattle.span_tracing_skeleton.specs.PlainData.{AnyStep, any_step}
 use Rattle.span_tracing_skeleton.specs.declared.call.Reply.{Reply}
@@ -12,13 +13,13 @@ pub record PlainCall : Type 0 where
   pub reply : Reply
 
 abbrev pub plain_entry : Entry → PlainEntry
-plain_entry e = record { lane = e.lane; step = any_step e.step; reply = e.reply; mask = e.mask }
+plain_entry e = record { lane = e.lane; step = any_step (arc_value e.step); reply = e.reply; mask = e.mask }
 
 abbrev pub plain_journal : List Entry → List PlainEntry
 plain_journal es = map plain_entry es
 
 abbrev pub plain_call : Call → PlainCall
-plain_call c = record { step = any_step c.step; reply = c.reply }
+plain_call c = record { step = any_step (arc_value c.step); reply = c.reply }
 
 abbrev pub plain_calls : List Call → List PlainCall
 plain_calls cs = map plain_call cs

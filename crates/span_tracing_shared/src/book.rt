@@ -16,8 +16,8 @@ use crate::seat::{Seat, SeatError};
 use span_tracing_skeleton::{Reply, Step};
 use std::alloc::{AllocError, Global};
 use std::marker::Model;
-use std::sync::ledger;
 use std::sync::ledger::{Blank, Ledger, Share};
+use std::sync::{Arc, ledger};
 
 /// A trace, what decided its replies when the book was opened, and the journal of its steps since then.
 pub struct Book<L: Ledger, T: CarriesOut> {
@@ -156,8 +156,8 @@ impl<L: Ledger, T: CarriesOut> Book<L, T> {
     {
         self.journal.reserve(1)?;
         seat.own.reserve(1)?;
-        let kept = step.clone()?;
-        let mine = step.clone()?;
+        let kept = Arc::new(self.alloc, step.clone()?)?;
+        let mine = Arc::clone(&kept)?;
         let Book {
             trace,
             journal,
