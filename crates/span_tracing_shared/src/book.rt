@@ -156,7 +156,8 @@ impl<L: Ledger, T: CarriesOut> Book<L, T> {
     {
         self.journal.reserve(1)?;
         seat.own.reserve(1)?;
-        let kept = Arc::new(self.alloc, step.clone()?)?;
+        let copy = step.clone()?;
+        let kept = Arc::new(self.alloc, copy)?;
         let mine = Arc::clone(&kept)?;
         let Book {
             trace,
