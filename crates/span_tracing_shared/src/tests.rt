@@ -1,6 +1,8 @@
 //! Lanes that share a small trace, in threads and in turn. What they find is the same, whatever their threads do.
 ghost use Rattle.std.specs.Prelude.{◌≡◌, ◌<◌};
 
+mod at_once;
+mod crowd;
 mod fake;
 mod meeting;
 
