@@ -5,6 +5,8 @@ ghost use Rattle.tracing_core_moments.specs.Moments.{is_moment};
 
 mod clocks;
 mod refused;
+mod settling;
+mod surface;
 mod threads;
 
 use crate::{
