@@ -17,6 +17,8 @@ mod shared;
 mod single;
 mod sinks;
 mod steps;
+mod surface;
 mod sweeps;
 mod threads;
 mod trace;
+mod turns;
