@@ -7,6 +7,7 @@ ghost use Rattle.tracing_core.specs.Metadata.{plain_metadata};
 mod clocked;
 mod json;
 mod lanes;
+mod live_lanes;
 mod pool;
 mod service;
 mod skipped;

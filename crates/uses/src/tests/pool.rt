@@ -28,11 +28,12 @@ const JOBS: [u64; 8] = [11, 12, 13, 14, 15, 16, 17, 18];
 type LiveTrace<R> = Trace<FileStack<LevelFilter, MemoryFolder, NonBlocking<R>>>;
 
 /// What a worker writes to.
-type Files = ClockedAppender<MemoryFolder, FixedClock>;
+pub(super) type Files = ClockedAppender<MemoryFolder, FixedClock>;
 
-/// A queue with room for one line, and the worker that writes its lines to a file in memory.
-fn live<R: AllocGlobal + Threads + Wait + Copy + Send + Drop + 'static>(
+/// A queue as the builder says, and the worker that writes its lines to a file in memory.
+pub(super) fn live<R: AllocGlobal + Threads + Wait + Copy + Send + Drop + 'static>(
     rt: &R,
+    builder: NonBlockingBuilder<'_>,
 ) -> Result<(NonBlocking<R>, WorkerGuard<Files>), Fail> {
     let alloc = rt.alloc();
     let files = Builder::new(alloc)
@@ -40,11 +41,18 @@ fn live<R: AllocGlobal + Threads + Wait + Copy + Send + Drop + 'static>(
         .filename_prefix("app");
     let opened = files.build(alloc, MemoryFolder::new(alloc), MONDAY);
     let appender = opened.ok().ok_or("a file")?;
+    let started = builder.finish(*rt, alloc, appender.clocked(FixedClock::new(MONDAY)));
+    Ok(started.ok().ok_or("a worker")?)
+}
+
+/// A queue with room for one line, and its worker.
+fn narrow<R: AllocGlobal + Threads + Wait + Copy + Send + Drop + 'static>(
+    rt: &R,
+) -> Result<(NonBlocking<R>, WorkerGuard<Files>), Fail> {
     let waiting = NonBlockingBuilder::default()
         .lossy(false)
         .buffered_lines_limit(1);
-    let started = waiting.finish(*rt, alloc, appender.clocked(FixedClock::new(MONDAY)));
-    Ok(started.ok().ok_or("a worker")?)
+    live(rt, waiting)
 }
 
 /// A trace of a text output and a JSON output over these queues, with a lane for each thread, and the callsites of jobs.
@@ -81,12 +89,13 @@ fn trace_over<R: Wait + Drop>(
     Ok((trace, Sites { request, told }))
 }
 
-/// How many lines a worker wrote to its file.
-fn lines_of(files: Files) -> Result<usize, Fail> {
+/// What a worker wrote to its file.
+pub(super) fn file_of(alloc: Global, files: Files) -> Result<String, Fail> {
     let folder = files.into_appender().into_folder();
     let files = folder.files()?;
     let file = files.first().ok_or("a file")?;
-    Ok(file.bytes.iter().filter(|byte| **byte == b'\n').count())
+    let text = str::from_utf8(file.bytes).ok().ok_or("a text")?;
+    Ok(String::from_str(alloc, text)?)
 }
 
 /// How many steps the journal of all jobs has, and how many lines each output lost.
@@ -115,8 +124,8 @@ fn logged<
 >(rt: &R, blank: Blank) -> Result<(), Fail>
     requires { (blank.name ≡ L.name) × (blank.parts ≡ L.parts) × (blank.parts ≡ 5) }
 {
-    let (text, text_worker) = live(rt)?;
-    let (json, json_worker) = match live(rt) {
+    let (text, text_worker) = narrow(rt)?;
+    let (json, json_worker) = match narrow(rt) {
         Ok(started) => started,
         Err(fail) => {
             let _files = text_worker.finish(rt);
@@ -126,7 +135,9 @@ fn logged<
     let came = served::<L, R>(rt, blank, text, json);
     let (text, json) = (text_worker.finish(rt), json_worker.finish(rt));
     assert_eq!(rt; came?, (6 * JOBS.len(), Some(0), Some(0)));
-    assert_eq!(rt; (lines_of(text)?, lines_of(json)?), (16, 16));
+    for files in [text, json] {
+        assert_eq!(rt; file_of(rt.alloc(), files)?.as_str().lines().count(), 16);
+    }
     Ok(())
 }
 
