@@ -19,8 +19,8 @@ use Rattle.span_tracing_skeleton.specs.declared.refusal.Refusal.TheVariants.{Unk
 use Rattle.span_tracing_skeleton.specs.declared.refusal.Refusal.TheVariants as refusals
 use Rattle.span_tracing_skeleton.specs.declared.setting.OutputPlace.{OutputPlace}
 
--- the lane of a seat, the step by it, what it answered, and of each output of the reached stack whether its filter passed the callsite; the
--- last is empty where no filter was asked
+-- the lane of a seat, the step by it, what it answered, and a mask. Of a new span the mask says which outputs' filters passed it, of a
+-- question whether some filter did; of all else, events too, the machine reads none, and a trace leaves it empty
 pub record PlainEntry : Type 0 where
   pub lane : ℕ
   pub step : AnyStep
