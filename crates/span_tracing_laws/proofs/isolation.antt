@@ -10,4 +10,5 @@ pub mod OwnSteps
 pub mod OwnRuns
 pub mod Unreplied
 pub mod IsolatedRuns
+pub mod HandedQueues
 pub mod FaultyFolders

@@ -4,3 +4,4 @@ pub mod ExactCounts
 pub mod QueuedWork
 pub mod LinesLeft
 pub mod QueueCalls
+pub mod WorkTurns
