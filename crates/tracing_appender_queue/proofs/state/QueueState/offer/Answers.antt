@@ -1,0 +1,18 @@
+use Rattle.std.proofs.Common.{◌≡◌, refl}
+use Rattle.std.proofs.Common.{rules, arith}
+use Rattle.std.proofs.lemmas.Grind.{common_steps}
+use Rattle.tracing_appender_queue.specs.View.{queue_of}
+use Rattle.tracing_appender_queue.proofs.Reached.{pushed}
+use Rattle.tracing_appender_queue.proofs.state.QueueState.offer.Goals as goal
+
+pub invariant_of-self-then-has_room : goal.invariant_of-self-then-has_room
+invariant_of-self-then-has_room c =
+    let s = c.self.inside in
+    record {
+      room = grind (arith, common_steps);
+      mark_in = grind (arith, common_steps);
+      mark_sent = c.self.invariant.mark_sent;
+      none_left = c.self.invariant.none_left;
+      reached = pushed (queue_of s) s.lines.items c.push_back.new.self.items c.args.line _ refl c.push_back.ensures.items (search rules)
+          c.self.invariant.reached;
+    }
