@@ -43,7 +43,7 @@ use Rattle.span_tracing_laws.proofs.runs.StepOutcomes.{parent_passed, reached_th
 use Rattle.span_tracing_laws.proofs.runs.UnrefusedSteps.{parent_known}
 
 -- a mask that is answered so is it also where the step is refused, and has none
-by_reply : (reply : Reply) (answers : List Bool → Type 0) (mask : List Bool) → answers mask →
+pub by_reply : (reply : Reply) (answers : List Bool → Type 0) (mask : List Bool) → answers mask →
     MaskIf reply answers (unless_refused reply mask)
 by_reply Done answers mask is = is
 by_reply (Enabled wanted) answers mask is = is
@@ -54,7 +54,7 @@ by_reply (Guard guard) answers mask is = is
 by_reply (Worked lines) answers mask is = is
 by_reply (Refused refusal) answers mask is = refl
 
-by_refusal : (reply : Reply) (answers : List Bool → Type 0) (mask : List Bool) (refusal : Refusal) → reply ≡ Refused refusal →
+pub by_refusal : (reply : Reply) (answers : List Bool → Type 0) (mask : List Bool) (refusal : Refusal) → reply ≡ Refused refusal →
     MaskIf reply answers (unless_refused reply mask)
 by_refusal reply answers mask refusal is = subst (λ r. MaskIf r answers (unless_refused r mask)) (sym is) refl
 
@@ -148,7 +148,7 @@ module _ {N E F S : Type 0} (n : Ghosts N) (line_of : E → Settings → PlainCo
   goes_mask : (v : Traced N E F S) (step : PlainStep) (reply : Reply) (w : Traced N E F S) → TraceIsReady g h v →
       refusal_of (skeleton_of v) step ≡ None → StepGoes sg registry_of stack_set v step reply w →
       IsMask g v step reply (mask_of v step reply w)
-  goes_mask v (GlobalStep handle) reply w ready none goes = by_reply reply (λ mask. mask ≡ []) [] refl
+  goes_mask v (GlobalStep handle) reply w ready none goes = by_reply reply (StepMask g v (GlobalStep handle)) [] refl
   goes_mask v (EventStep e) reply w ready none goes =
       by_reply reply (StepMask g v (EventStep e)) (marks_at (reach (skeleton_of v) e.lane) w)
       (event_mask v e w (reach (skeleton_of v) e.lane) (known (skeleton_of v) e.callsite false) refl ready none goes.1)
@@ -157,17 +157,17 @@ module _ {N E F S : Type 0} (n : Ghosts N) (line_of : E → Settings → PlainCo
       (question_mask v ask reply w (reach (skeleton_of v) ask.lane) (named (skeleton_of v).callsites ask.callsite.0) refl ready goes)
   goes_mask v (SpanStep q) reply w ready none goes =
       span_mask v q reply w (reach (skeleton_of v) q.lane) (known (skeleton_of v) q.callsite true) refl ready goes
-  goes_mask v (RecordStep r) reply w ready none goes = by_reply reply (λ mask. mask ≡ []) [] refl
-  goes_mask v (FollowsFromStep ask) reply w ready none goes = by_reply reply (λ mask. mask ≡ []) [] refl
-  goes_mask v (EnterStep ask) reply w ready none goes = by_reply reply (λ mask. mask ≡ []) [] refl
-  goes_mask v (ExitStep ask) reply w ready none goes = by_reply reply (λ mask. mask ≡ []) [] refl
-  goes_mask v (CloneStep ask) reply w ready none goes = by_reply reply (λ mask. mask ≡ []) [] refl
-  goes_mask v (CloseStep ask) reply w ready none goes = by_reply reply (λ mask. mask ≡ []) [] refl
-  goes_mask v (DefaultStep ask) reply w ready none goes = by_reply reply (λ mask. mask ≡ []) [] refl
-  goes_mask v (ResetStep ask) reply w ready none goes = by_reply reply (λ mask. mask ≡ []) [] refl
-  goes_mask v (CloneHandleStep handle) reply w ready none goes = by_reply reply (λ mask. mask ≡ []) [] refl
-  goes_mask v (ReleaseStep handle) reply w ready none goes = by_reply reply (λ mask. mask ≡ []) [] refl
-  goes_mask v (SetStep ask) reply w ready none goes = by_reply reply (λ mask. mask ≡ []) [] refl
+  goes_mask v (RecordStep r) reply w ready none goes = by_reply reply (StepMask g v (RecordStep r)) [] refl
+  goes_mask v (FollowsFromStep ask) reply w ready none goes = by_reply reply (StepMask g v (FollowsFromStep ask)) [] refl
+  goes_mask v (EnterStep ask) reply w ready none goes = by_reply reply (StepMask g v (EnterStep ask)) [] refl
+  goes_mask v (ExitStep ask) reply w ready none goes = by_reply reply (StepMask g v (ExitStep ask)) [] refl
+  goes_mask v (CloneStep ask) reply w ready none goes = by_reply reply (StepMask g v (CloneStep ask)) [] refl
+  goes_mask v (CloseStep ask) reply w ready none goes = by_reply reply (StepMask g v (CloseStep ask)) [] refl
+  goes_mask v (DefaultStep ask) reply w ready none goes = by_reply reply (StepMask g v (DefaultStep ask)) [] refl
+  goes_mask v (ResetStep ask) reply w ready none goes = by_reply reply (StepMask g v (ResetStep ask)) [] refl
+  goes_mask v (CloneHandleStep handle) reply w ready none goes = by_reply reply (StepMask g v (CloneHandleStep handle)) [] refl
+  goes_mask v (ReleaseStep handle) reply w ready none goes = by_reply reply (StepMask g v (ReleaseStep handle)) [] refl
+  goes_mask v (SetStep ask) reply w ready none goes = by_reply reply (StepMask g v (SetStep ask)) [] refl
 
   mask_unless : (o : Option Refusal) (v : Traced N E F S) (step : PlainStep) (reply : Reply) (w : Traced N E F S) →
       refusal_of (skeleton_of v) step ≡ o → TraceIsReady g h v → StepUnless sg registry_of stack_set o v step reply w →
