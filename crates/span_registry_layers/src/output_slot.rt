@@ -140,8 +140,8 @@ impl<L: Layer, F: Filter> OutputSlot<Filtered<L, F>> {
         ensures same { registry.new ≡ registry.old }
     {
         let passes = self.passes(metadata, registry, at);
+        self.clear();
         self.passed = passes;
-        self.told = false;
     }
 
     // Asks its filter of the event, and marks what it answers.
