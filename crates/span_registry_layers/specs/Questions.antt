@@ -9,7 +9,7 @@ use Rattle.span_registry_layers_layers.specs.declared.filter.Filter.{Ghosts}
 use Rattle.span_registry_layers_layers.specs.declared.filtered.Filtered.{Filtered}
 use Rattle.span_registry_layers.specs.CommonAnswers.{SomePasses}
 use Rattle.span_registry_layers.specs.Caches.{else_known}
-use Rattle.span_registry_layers.specs.OutputSlots.{AsksCallsite, EachBecomes, marked, marks_of, view_of, with_marks}
+use Rattle.span_registry_layers.specs.OutputSlots.{AsksCallsite, EachBecomes, marked, marks_of, with_marks}
 use Rattle.span_registry_layers.specs.Stacks.{MarksUnless, PassesCached, PassesUnless, QuestionUnless, StackValue, cleared, is_refused}
 use Rattle.span_registry_layers.specs.Stacks.{some_passes}
 use Rattle.span_registry_layers.specs.declared.output_slot.OutputSlot.{OutputSlot}

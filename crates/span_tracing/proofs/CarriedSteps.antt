@@ -1,5 +1,5 @@
 -- A trace that carries out a step does what the machine on skeletons does with the step's mask.
-use Rattle.std.proofs.Common.{◌≡◌, ◌≤◌, ◌⊎◌, length, IfSome, inl, inr, ℕ, Bool, true, false, List, [], ◌∷◌, Option, Some, None, refl, sym, ap, subst, ◌∙◌}
+use Rattle.std.proofs.Common.{◌≡◌, ◌≤◌, ◌⊎◌, length, IfSome, inl, inr, ℕ, Bool, true, false, List, [], Option, Some, None, refl, sym, ap, subst, ◌∙◌}
 use Rattle.tracing_core_fields.specs.requests.PlainRequests.{PlainEvent}
 use Rattle.tracing_core_fields.specs.declared.requests.subscriber.Subscriber.{Ghosts as SubscriberGhosts}
 use Rattle.tracing_core_moments.specs.declared.at.At.{At}

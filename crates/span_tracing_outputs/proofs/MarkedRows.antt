@@ -1,5 +1,5 @@
 -- What stays of the outputs' marks while outputs are told.
-use Rattle.std.proofs.Common.{◌≡◌, ℕ, Bool, true, false, List, [], ◌∷◌, map, inl, refl, sym, ap, ◌∙◌, subst}
+use Rattle.std.proofs.Common.{◌≡◌, ℕ, Bool, true, false, List, [], ◌∷◌, map, inl, refl, ap, ◌∙◌}
 use Rattle.tracing_core_fields.specs.PlainMetadata.{PlainMetadata}
 use Rattle.tracing_core_fields.specs.requests.Lists.{Every}
 use Rattle.tracing_core_fields.specs.requests.PlainRequests.{PlainEvent}
