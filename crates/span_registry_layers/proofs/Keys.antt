@@ -21,9 +21,9 @@ use Rattle.span_registry_layers.specs.Keys.{CallsKeepToKeys, LayersKeepToKeys, N
 use Rattle.span_registry_layers.specs.Keys.{keys_in}
 use Rattle.span_registry_layers.specs.NewStack.{RowOf, RowsFrom}
 use Rattle.span_registry_layers.specs.OutputSlots.{EachBecomes, TellsEvent, TellsIf, marked, view_of}
-use Rattle.span_registry_layers.specs.Stacks.{StackValue}
+use Rattle.span_registry_layers.specs.Stacks.{StackValue, is_refused}
 use Rattle.span_registry_layers.specs.Steps.{SameKeys, clone_keeps, close_keeps, dispatch_keeps, enter_keeps, event_keeps, exit_keeps}
-use Rattle.span_registry_layers.specs.Steps.{follows_keeps, keys_put, record_keeps, span_keeps}
+use Rattle.span_registry_layers.specs.Steps.{follows_keeps, keys_put, question_keeps, record_keeps, span_keeps}
 use Rattle.span_registry_layers.specs.declared.output.Output.{Output}
 use Rattle.span_registry_layers.specs.declared.output_slot.OutputSlot.{OutputSlot}
 
@@ -65,7 +65,7 @@ module _ {L F : Type 0} (g : Ghosts F) (h : LayerGhosts L) where
   pub calls_kept : CallsKeepToKeys g h
   calls_kept s (DispatchRegistered dispatch) r t m = stays s t (dispatch_keeps g h dispatch s t m).keys
   calls_kept s (CallsiteRegistered n) r t m = stays s t (same_keys s t (rows_of (record s { interest_cache = t.interest_cache }) t m.1.1))
-  calls_kept s (Asked n at) r t m = stays s t (same_keys s t (rows_of s t m.1))
+  calls_kept s (Asked n at) r t m = stays s t (question_keeps g h (is_refused s n) n at s t m.0).keys
   calls_kept s HintAsked r t m = stays s t (same_keys s t (rows_of (record s { hint = r }) t m.1))
   calls_kept s (SpanMade a at) r t m = stays s t (span_keeps g h a at s t r m).keys
   calls_kept s (Recorded id values at) r t m = stays s t (record_keeps g h id values at s t r m).keys

@@ -27,9 +27,9 @@ use Rattle.span_registry_layers.specs.Calls.{SpanAfresh, SpanKnown}
 use Rattle.span_registry_layers.specs.Numbers.{DroppedSpanTellsNobody, DroppedTellsNobody, NumbersStay, RowSaid, VerdictsAreOwn}
 use Rattle.span_registry_layers.specs.OutputSlots.{Afresh, AsksEventBy, EachBecomes, Fresh, TellsEvent, filters_of, marked, numbers_of}
 use Rattle.span_registry_layers.specs.OutputSlots.{view_of, with_layer, with_marks}
-use Rattle.span_registry_layers.specs.Stacks.{PassesAsked, RowsInTurn, StackValue, TellsAfresh, WhereKnown, cleared}
+use Rattle.span_registry_layers.specs.Stacks.{PassesAsked, RowsInTurn, StackValue, TellsAfresh, WhereKnown, cleared, is_refused}
 use Rattle.span_registry_layers.specs.Steps.{clone_keeps, close_keeps, dispatch_keeps, enter_keeps, event_keeps, exit_keeps, follows_keeps}
-use Rattle.span_registry_layers.specs.Steps.{record_keeps, span_keeps}
+use Rattle.span_registry_layers.specs.Steps.{question_keeps, record_keeps, span_keeps}
 use Rattle.span_registry_layers.specs.declared.output_slot.OutputSlot.{OutputSlot}
 
 apart : (m n : ℕ) → (m == n) ≡ false → m ≡ n → ⊥
@@ -126,7 +126,7 @@ module _ {L F : Type 0} (g : Ghosts F) (h : LayerGhosts L) where
   pub numbers_same : NumbersStay g h
   numbers_same s (DispatchRegistered dispatch) r t m = (dispatch_keeps g h dispatch s t m).numbers
   numbers_same s (CallsiteRegistered n) r t m = numbers_alike (record s { interest_cache = t.interest_cache }) t m.1.1
-  numbers_same s (Asked n at) r t m = numbers_alike s t m.1
+  numbers_same s (Asked n at) r t m = (question_keeps g h (is_refused s n) n at s t m.0).numbers
   numbers_same s HintAsked r t m = numbers_alike (record s { hint = r }) t m.1
   numbers_same s (SpanMade a at) r t m = (span_keeps g h a at s t r m).numbers
   numbers_same s (Recorded id values at) r t m = (record_keeps g h id values at s t r m).numbers

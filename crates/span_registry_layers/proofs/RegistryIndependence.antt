@@ -23,6 +23,7 @@ use Rattle.span_registry_layers.specs.Calls.{CloseUnless, MakesSpan, SpanKnown, 
 use Rattle.span_registry_layers.specs.SpanNotices.{TellsFollows, TellsMade, TellsSpan}
 use Rattle.span_registry_layers.specs.Moves.{Moves}
 use Rattle.span_registry_layers.specs.OutputSlots.{TellsEvent}
+use Rattle.span_registry_layers.specs.Questions.{question_alike}
 use Rattle.span_registry_layers.specs.Stacks.{RowsInTurn, StackValue, TellsUnless, WhereKnown, is_refused}
 use Rattle.span_registry_layers.specs.declared.output_slot.OutputSlot.{OutputSlot}
 use Rattle.span_registry_layers.proofs.RegistryAfterNotices.{IsKept, all_kept, closes_left, event_left, follows_left, made_left, rows_left}
@@ -129,7 +130,12 @@ module _ {L F : Type 0} (g : Ghosts F) (h : LayerGhosts L) (Alike : RegistryValu
   stands_alone s (DispatchRegistered dispatch) r t m =
       (s.registry, refl, k.equal s.registry t.registry (ap (λ (v : StackValue (Filtered L F)). v.registry) m.1))
   stands_alone s (CallsiteRegistered n) r t m = (s.registry, refl, k.equal s.registry t.registry (same _ t m.1.1))
-  stands_alone s (Asked n at) r t m = (s.registry, refl, kept s t m.1)
+  stands_alone s (Asked n at) r t m = (
+    s.registry,
+    refl,
+    k.equal s.registry t.registry
+        (ap (λ (v : StackValue (Filtered L F)). v.registry) (question_alike g (is_refused s n) n at s t m.0)),
+  )
   stands_alone s HintAsked r t m = (s.registry, refl, k.equal s.registry t.registry (same _ t m.1))
   stands_alone s (SpanMade a at) r t m = span_alone (knows s.registry (explicit_parent a.parent)) (is_refused s a.metadata) a at s t r refl
       m

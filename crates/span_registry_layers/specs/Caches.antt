@@ -20,10 +20,11 @@ use Rattle.span_registry_layers_layers.specs.declared.filtered.Filtered.{Filtere
 use Rattle.span_registry_layers_layers.specs.declared.layer.Layer.{Ghosts as LayerGhosts}
 use Rattle.span_registry_layers.specs.CommonAnswers.{AsksFrom, SomePasses, SomePassesBy}
 use Rattle.span_registry_layers.specs.Calls.{SpanAfresh, SpanAsked, SpanByAnswers, SpanCached, SpanKnown, SpanUnless, SpanWhere}
-use Rattle.span_registry_layers.specs.OutputSlots.{Afresh, AsksEventBy, EachBecomes, TellsEvent, filters_of, marked, view_of}
+use Rattle.span_registry_layers.specs.OutputSlots.{Afresh, AsksCallsite, AsksEventBy, EachBecomes, TellsEvent, filters_of, marked, view_of}
 use Rattle.span_registry_layers.specs.InterestCache.{PlainCachedInterest, is_of, is_refused_by}
 use Rattle.span_registry_layers.specs.Stacks.{EventAsked, EventByAnswers, EventCached, PassesAsked, PassesCached, PassesUnless, StackValue}
-use Rattle.span_registry_layers.specs.Stacks.{TellsAfresh, TellsAll, TellsUnless, WhereKnown, cleared, is_above, is_refused}
+use Rattle.span_registry_layers.specs.Stacks.{QuestionAsked, QuestionByAnswers, QuestionCached, QuestionUnless, RowsBecome, TellsAfresh}
+use Rattle.span_registry_layers.specs.Stacks.{TellsAll, TellsUnless, WhereKnown, cleared, is_above, is_refused}
 use Rattle.span_registry_layers.specs.CacheValidity.{HintOver, Knows, CacheIsValid, CacheIsValidFor}
 use Rattle.span_registry_layers.specs.declared.output_slot.OutputSlot.{OutputSlot}
 
@@ -53,7 +54,7 @@ neither_true : (a b : Bool) → (a || b) ≡ false → (a ≡ false) × (b ≡ f
 neither_true true b e = absurd (cc)
 neither_true false b e = (refl, e)
 
-else_known : (P Q : Bool → Type 0) (p r : Bool) → (P r → Q r) → Else P p r → Else Q p r
+pub else_known : (P Q : Bool → Type 0) (p r : Bool) → (P r → Q r) → Else P p r → Else Q p r
 else_known P Q true r f w = w
 else_known P Q false r f w = f w
 
@@ -127,6 +128,36 @@ module _ {F : Type 0} (g : Ghosts F) where
         Every (λ (row : OutputSlot (Filtered L F)). Afresh g row.output.filter m (view_of at x row) false) rows
     all_refuse_afresh m at x [] w = tt
     all_refuse_afresh m at x (row ∷ rows) w = (inr (refl, w.0 (view_of at x row)), all_refuse_afresh m at x rows w.1)
+
+module _ {L F : Type 0} (g : Ghosts F) where
+  marks_refused : (m : PlainMetadata) (at : At) (x : RegistryValue) (rows : List (OutputSlot (Filtered L F))) →
+      Every (Refuses g m) (filters_of rows) → EachBecomes (AsksCallsite (Afresh g) m at x) rows (map (marked false) rows)
+  marks_refused m at x [] w = tt
+  marks_refused m at x (row ∷ rows) w = ((inr (refl, w.0 (view_of at x row)), refl), marks_refused m at x rows w.1)
+
+  marks_afresh : (m : PlainMetadata) (at : At) (x : RegistryValue) (rows asked : List (OutputSlot (Filtered L F))) →
+      EachBecomes (AsksCallsite g.answers m at x) rows asked → EachBecomes (AsksCallsite (Afresh g) m at x) rows asked
+  marks_afresh m at x [] [] w = w
+  marks_afresh m at x [] (l ∷ ls) w = absurd w
+  marks_afresh m at x (r ∷ rs) [] w = absurd w
+  marks_afresh m at x (r ∷ rs) (l ∷ ls) w = ((inl w.0.0, w.0.1), marks_afresh m at x rs ls w.1)
+
+  -- the marks that a question leaves are what each filter answers, asked again
+  pub question_afresh : (m : PlainMetadata) (at : At) (s : StackValue (Filtered L F)) (b : Bool) (t : StackValue (Filtered L F)) →
+      QuestionByAnswers g m at s b t → QuestionAsked g m at s b t
+  question_afresh m at s b t asked = ((marks_afresh m at s.registry s.rows t.rows asked.0.0, asked.0.1), asked.1)
+
+  pub question_is_asked : (m : PlainMetadata) (at : At) (s : StackValue (Filtered L F)) (b : Bool) (t : StackValue (Filtered L F)) →
+      CacheIsValid g s → QuestionCached g m at s b t → QuestionAsked g m at s b t
+  question_is_asked m at s b t w asked = unless (is_refused s m) refl asked
+    where
+      unless : (c : Bool) → is_refused s m ≡ c → QuestionUnless g c m at s b t → QuestionAsked g m at s b t
+      unless true e given = (
+        subst (λ (v : StackValue (Filtered L F)). RowsBecome (AsksCallsite (Afresh g) m at s.registry) s v) (sym given.0)
+            (marks_refused m at s.registry s.rows (all_refuse g m s.hint (filters_of s.rows) s.interest_cache w e), refl),
+        given.1,
+      )
+      unless false e given = question_afresh m at s b t given
 
 where_known : {O : Type 0} (s : StackValue O) (P Q : StackValue O → Type 0) (b : Bool) (r : Result (Unit {0}) RequestError)
     (t : StackValue O) → (P t → Q t) → WhereKnown b s P r t → WhereKnown b s Q r t

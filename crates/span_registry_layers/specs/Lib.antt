@@ -14,6 +14,7 @@ pub mod Loans
 pub mod Moves
 pub mod Steps
 pub mod Caches
+pub mod Questions
 pub mod Steadiness
 pub mod Numbers
 pub mod Soundness

@@ -11,13 +11,13 @@ use Rattle.span_registry_layers.specs.Calls.{CloneGives, CloseGives, EnterGives,
 use Rattle.span_registry_layers.specs.Calls.{current_in}
 use Rattle.span_registry_layers.specs.OutputSlots.{filters_of}
 use Rattle.span_registry_layers.specs.SpanNotices.{TellsDispatch}
-use Rattle.span_registry_layers.specs.Stacks.{EventCached, PassesCached, Registers, RowsBecome, StackValue, with_hint}
+use Rattle.span_registry_layers.specs.Stacks.{EventCached, QuestionCached, Registers, RowsBecome, StackValue, with_hint}
 
 module _ {L F : Type 0} (g : Ghosts F) (h : LayerGhosts L) where
   abbrev pub Moves : StackValue (Filtered L F) → (c : Call) → ReplyTo c → StackValue (Filtered L F) → Type 0
   Moves s (DispatchRegistered dispatch) r t = RowsBecome (TellsDispatch g h dispatch) s t
   Moves s (CallsiteRegistered m) k t = CommonInterest g m (filters_of s.rows) k × Registers m k s t
-  Moves s (Asked m at) r t = PassesCached g s m at r × (t ≡ s)
+  Moves s (Asked m at) r t = QuestionCached g m at s r t
   Moves s HintAsked r t = (r ≡ common_hint g (Some 0) (filters_of s.rows)) × (t ≡ with_hint r s)
   Moves s (SpanMade a at) r t = SpanCached g h a at s r t
   Moves s (Recorded id values at) r t = RecordGives g h id values at s r t

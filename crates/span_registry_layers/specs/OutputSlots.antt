@@ -59,6 +59,15 @@ TellsIf h false layer n v y later = (later ≡ layer) × (y ≡ v.registry)
 abbrev pub with_marks : {O : Type 0} → Bool → Bool → OutputSlot O → OutputSlot O
 with_marks passed told row = record row { passed = passed; told = told }
 
+-- what the filters of outputs answered of the last request's callsite, one for each output, in order: the mask of the request
+abbrev pub marks_of : {O : Type 0} → List (OutputSlot O) → List Bool
+marks_of rows = map (λ row. row.passed) rows
+
+-- its filter is asked of a callsite, by these answers; what it answers is marked, and the output is told nothing
+abbrev pub AsksCallsite : {L F : Type 0} → (F → PlainMetadata → View → Bool → Type 0) → PlainMetadata → At → RegistryValue →
+    OutputSlot (Filtered L F) → OutputSlot (Filtered L F) → Type 0
+AsksCallsite A m at x row asked = A row.output.filter m (view_of at x row) asked.passed × (asked ≡ with_marks asked.passed false row)
+
 module _ {L F : Type 0} (g : Ghosts F) where
   -- its filter is asked of the callsite, by these answers, and then of the event; what it answers of the callsite and whether it passes
   -- both are marked

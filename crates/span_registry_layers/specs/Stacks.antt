@@ -14,7 +14,7 @@ use Rattle.span_registry_layers_layers.specs.declared.filter.Filter.{Ghosts}
 use Rattle.span_registry_layers_layers.specs.declared.filtered.Filtered.{Filtered}
 use Rattle.span_registry_layers_layers.specs.declared.layer.Layer.{Ghosts as LayerGhosts}
 use Rattle.span_registry_layers.specs.CommonAnswers.{SomePasses, SomePassesBy}
-use Rattle.span_registry_layers.specs.OutputSlots.{Afresh, AsksEventBy, EachBecomes, TellsEvent, marked}
+use Rattle.span_registry_layers.specs.OutputSlots.{Afresh, AsksCallsite, AsksEventBy, EachBecomes, TellsEvent, marked, marks_of}
 use Rattle.span_registry_layers.specs.InterestCache.{CachesInterest, PlainCachedInterest, is_refused_by}
 use Rattle.span_registry_layers.specs.declared.parts.StackParts.{StackParts}
 use Rattle.span_registry_layers.specs.declared.output_slot.OutputSlot.{OutputSlot}
@@ -61,6 +61,10 @@ abbrev pub WhereKnown : {O : Type 0} → Bool → StackValue O → (StackValue O
 WhereKnown true s leaves r t = (r ≡ Ok tt) × leaves t
 WhereKnown false s leaves r t = (r ≡ Err UnknownParent) × (t ≡ s)
 
+-- some filter passes
+abbrev pub some_passes : List Bool → Bool
+some_passes mask = list_any (λ passed. passed) mask
+
 module _ {L F : Type 0} (g : Ghosts F) where
   abbrev pub PassesUnless : Bool → StackValue (Filtered L F) → PlainMetadata → At → Bool → Type 0
   PassesUnless true s m at b = b ≡ false
@@ -77,6 +81,27 @@ module _ {L F : Type 0} (g : Ghosts F) where
   -- the same, each filter asked again
   abbrev pub PassesAsked : StackValue (Filtered L F) → PlainMetadata → At → Bool → Type 0
   PassesAsked s m at b = SomePassesBy (Afresh g) m at s.registry s.rows b
+
+  -- each output's filter is asked of a callsite, and what it answers is marked; where it is refused nobody is asked, and no mark is left
+  abbrev pub MarksUnless : Bool → PlainMetadata → At → StackValue (Filtered L F) → StackValue (Filtered L F) → Type 0
+  MarksUnless true m at s t = t ≡ cleared s
+  MarksUnless false m at s t = RowsBecome (AsksCallsite g.answers m at s.registry) s t
+
+  -- the answer to a question is whether some mark is left
+  abbrev pub QuestionUnless : Bool → PlainMetadata → At → StackValue (Filtered L F) → Bool → StackValue (Filtered L F) → Type 0
+  QuestionUnless refused m at s b t = MarksUnless refused m at s t × (b ≡ some_passes (marks_of t.rows))
+
+  -- a question, nobody asked where what is kept refuses it
+  abbrev pub QuestionCached : PlainMetadata → At → StackValue (Filtered L F) → Bool → StackValue (Filtered L F) → Type 0
+  QuestionCached m at s b t = QuestionUnless (is_refused s m) m at s b t
+
+  -- a question, by what each filter answers now
+  abbrev pub QuestionByAnswers : PlainMetadata → At → StackValue (Filtered L F) → Bool → StackValue (Filtered L F) → Type 0
+  QuestionByAnswers m at s b t = QuestionUnless false m at s b t
+
+  -- a question, every filter asked again: the marks are what each answers, and nothing else changes
+  abbrev pub QuestionAsked : PlainMetadata → At → StackValue (Filtered L F) → Bool → StackValue (Filtered L F) → Type 0
+  QuestionAsked m at s b t = RowsBecome (AsksCallsite (Afresh g) m at s.registry) s t × (b ≡ some_passes (marks_of t.rows))
 
 module _ {L F : Type 0} (g : Ghosts F) (h : LayerGhosts L) where
   -- the outputs' own filters are asked, by these answers, and then each output is told, in order, whose filter passes the event

@@ -1,5 +1,5 @@
 -- A stack of honest filters is consistent.
-use Rattle.std.specs.Prelude.{◌≡◌, ◌↔◌, ◌⊎◌, ◌++◌, ℕ, Bool, true, false, if◌then◌else◌, List, [], ◌∷◌, map, Option, Some, None, refl}
+use Rattle.std.specs.Prelude.{◌≡◌, ◌⊎◌, ◌++◌, ℕ, Bool, true, false, if◌then◌else◌, List, [], ◌∷◌, map, Option, Some, None, refl}
 use Rattle.std.specs.List.{list_any}
 use Rattle.std.proofs.Common.{inl, inr, ap, sym, ◌∙◌, subst, arith, true≢false}
 use Rattle.tracing_core_fields.specs.requests.Interests.{joined, PlainInterest, common, Covers}
@@ -22,9 +22,10 @@ use Rattle.span_registry_layers.specs.Caches.{Refuses, all_below, all_never, by_
 use Rattle.span_registry_layers.specs.Moves.{Moves}
 use Rattle.span_registry_layers.specs.OutputSlots.{EachBecomes, filters_of, view_of}
 use Rattle.span_registry_layers.specs.InterestCache.{CachesInterestIf, PlainCachedInterest, is_of, is_refused_by, renewed}
-use Rattle.span_registry_layers.specs.Stacks.{PassesCached, PassesUnless, Registers, StackValue, is_above, is_refused, with_hint}
+use Rattle.span_registry_layers.specs.Stacks.{PassesCached, PassesUnless, Registers, StackValue, cleared, is_above, is_refused, with_hint}
 use Rattle.span_registry_layers.specs.Steps.{PreservesFilters, Steps, clone_keeps, close_keeps, dispatch_keeps, enter_keeps, event_keeps}
-use Rattle.span_registry_layers.specs.Steps.{exit_keeps, follows_keeps, keeps_same, keeps_word, record_keeps, span_keeps}
+use Rattle.span_registry_layers.specs.Steps.{exit_keeps, follows_keeps, keeps_same, keeps_word, question_keeps, record_keeps, span_keeps}
+use Rattle.span_registry_layers.specs.Questions.{question_alike}
 use Rattle.span_registry_layers.specs.CacheValidity.{HintOver, Knows, CacheIsValid, CacheIsValidFor}
 use Rattle.span_registry_layers.specs.declared.output_slot.OutputSlot.{OutputSlot}
 
@@ -298,10 +299,6 @@ module _ {F : Type 0} (g : Ghosts F) where
         hints = w.hints;
       })
 
-  pub stack_quiet : {L : Type 0} (s t : StackValue (Filtered L F)) (n : PlainMetadata) (now : At) (b : Bool) → t ≡ s →
-      PassesCached g s n now b ↔ PassesCached g t n now b
-  stack_quiet s t n now b e = (subst (λ x. PassesCached g x n now b) (sym e), subst (λ x. PassesCached g x n now b) e)
-
 module _ {L F : Type 0} (g : Ghosts F) (h : LayerGhosts L) where
   abbrev SameWords : StackValue (Filtered L F) → StackValue (Filtered L F) → Type 0
   SameWords s t = SameWord (λ m k. CommonInterest g m (filters_of s.rows) k) (λ m k. CommonInterest g m (filters_of t.rows) k)
@@ -333,7 +330,7 @@ module _ {L F : Type 0} (g : Ghosts F) (h : LayerGhosts L) where
   stack_stays s (DispatchRegistered dispatch) r t m w = after_keeping s t w (dispatch_keeps g h dispatch s t m)
   stack_stays s (CallsiteRegistered n) r t m w =
       (word_registered g s t n r m.0 m.1 w, same_filters s t (ap (λ (v : StackValue (Filtered L F)). filters_of v.rows) m.1.1))
-  stack_stays s (Asked n at) r t m w = after_keeping s t w (keeps_same g h s t m.1)
+  stack_stays s (Asked n at) r t m w = after_keeping s t w (question_keeps g h (is_refused s n) n at s t m.0)
   stack_stays s HintAsked r t m w = (
     subst (CacheIsValid g) (sym (m.1 ∙ ap (λ hint. with_hint hint s) m.0)) (word_hinted g s w),
     same_filters s t (ap (λ (v : StackValue (Filtered L F)). filters_of v.rows) m.1),
@@ -351,5 +348,5 @@ module _ {L F : Type 0} (g : Ghosts F) (h : LayerGhosts L) where
   stack_stays s (CurrentAsked at) r t m w = after_keeping s t w (keeps_same g h s t m.1)
 
   pub asked_stays : (s : StackValue (Filtered L F)) (m : PlainMetadata) (at : At) (r : Bool) (t : StackValue (Filtered L F)) →
-      Moves g h s (Asked m at) r t → t ≡ s
-  asked_stays s m at r t w = w.1
+      Moves g h s (Asked m at) r t → cleared t ≡ cleared s
+  asked_stays s m at r t w = question_alike g (is_refused s m) m at s t w.0

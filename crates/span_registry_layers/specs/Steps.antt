@@ -20,10 +20,12 @@ use Rattle.span_registry_layers_layers.specs.declared.filtered.Filtered.{Filtere
 use Rattle.span_registry_layers_layers.specs.declared.layer.Layer.{Ghosts as LayerGhosts}
 use Rattle.span_registry_layers.specs.Calls.{CloneGives, CloseGives, CloseUnless, Closes, EnterGives, ExitGives, FollowsGives, MakesSpan}
 use Rattle.span_registry_layers.specs.Calls.{NewSpanUnless, RecordGives, SpanCached, SpanKnown, SpanUnless, SpanWhere, WhereTaken, over}
-use Rattle.span_registry_layers.specs.OutputSlots.{AsksEventBy, EachBecomes, TellsEvent, TellsIf, filters_of, marked, numbers_of, view_of}
+use Rattle.span_registry_layers.specs.OutputSlots.{AsksCallsite, AsksEventBy, EachBecomes, TellsEvent, TellsIf, filters_of, marked, numbers_of}
+use Rattle.span_registry_layers.specs.OutputSlots.{view_of}
 use Rattle.span_registry_layers.specs.InterestCache.{PlainCachedInterest}
 use Rattle.span_registry_layers.specs.SpanNotices.{ClosesEach, HearsIf, TellsDispatch, TellsFollows, TellsMade, TellsSpan, sees}
-use Rattle.span_registry_layers.specs.Stacks.{EventCached, EventUnless, RowsBecome, RowsInTurn, StackValue, TellsUnless, WhereKnown}
+use Rattle.span_registry_layers.specs.Stacks.{EventCached, EventUnless, MarksUnless, RowsBecome, RowsInTurn, StackValue, TellsUnless}
+use Rattle.span_registry_layers.specs.Stacks.{WhereKnown}
 use Rattle.span_registry_layers.specs.Stacks.{cleared, is_refused}
 use Rattle.span_registry_layers.specs.CacheValidity.{HintOver, Knows, CacheIsValid, CacheIsValidFor}
 use Rattle.span_registry_layers.specs.declared.output_slot.OutputSlot.{OutputSlot}
@@ -384,6 +386,19 @@ module _ {L F : Type 0} (g : Ghosts F) (h : LayerGhosts L) where
       stepped_put row asked (ap (λ (r : OutputSlot (Filtered L F)). r.output.filter) w.2) (ap (λ (r : OutputSlot (Filtered L F)). r.id) w.2)
       (ap (λ (r : OutputSlot (Filtered L F)). h.numbers r.output.layer) w.2)
       (ap (λ (r : OutputSlot (Filtered L F)). r.key) w.2, λ key. ap (λ (r : OutputSlot (Filtered L F)). h.keys r.output.layer key) w.2)
+
+  question_steps : (m : PlainMetadata) (at : At) (x : RegistryValue) (row asked : OutputSlot (Filtered L F)) →
+      AsksCallsite g.answers m at x row asked → Stepped row asked
+  question_steps m at x row asked w =
+      stepped_put row asked (ap (λ (r : OutputSlot (Filtered L F)). r.output.filter) w.1) (ap (λ (r : OutputSlot (Filtered L F)). r.id) w.1)
+      (ap (λ (r : OutputSlot (Filtered L F)). h.numbers r.output.layer) w.1)
+      (ap (λ (r : OutputSlot (Filtered L F)). r.key) w.1, λ key. ap (λ (r : OutputSlot (Filtered L F)). h.keys r.output.layer key) w.1)
+
+  pub question_keeps : (b : Bool) (m : PlainMetadata) (at : At) (s t : StackValue (Filtered L F)) → MarksUnless g b m at s t →
+      PreservesFilters s t
+  question_keeps true m at s t w = cleared_keeps s t w
+  question_keeps false m at s t w =
+      dispatched_keep (AsksCallsite g.answers m at s.registry) (question_steps m at s.registry) s t w
 
   pub event_unless_keeps : (b : Bool) (e : PlainEvent) (at : At) (s t : StackValue (Filtered L F)) (r : Result (Unit {0}) RequestError) →
       EventUnless g h b e at s r t → PreservesFilters s t

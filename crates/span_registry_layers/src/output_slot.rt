@@ -5,7 +5,7 @@ ghost use Rattle.tracing_core_fields.specs.requests.PlainRequests.{plain_event};
 ghost use Rattle.span_registry_layers_layers.specs.Combined.{Then};
 ghost use Rattle.span_registry_layers_layers.specs.Notices.{Happened};
 ghost use Rattle.span_registry_layers.specs.CommonAnswers.{AsksRow};
-ghost use Rattle.span_registry_layers.specs.OutputSlots.{AsksEvent, TellsEvent, is_marked, marked, view_of, with_layer};
+ghost use Rattle.span_registry_layers.specs.OutputSlots.{AsksCallsite, AsksEvent, TellsEvent, is_marked, marked, view_of, with_layer};
 ghost use Rattle.span_registry_layers.specs.Swaps.{with_filter};
 
 mod spans;
@@ -127,6 +127,21 @@ impl<L: Layer, F: Filter> OutputSlot<Filtered<L, F>> {
     {
         let mut context = Context::new(registry, at, Some(self.id));
         self.output.inner_mut().on_event(event, &mut context);
+    }
+
+    // Asks its filter of a callsite, and marks what it answers. It is told nothing.
+    pub(crate) fn ask_callsite(
+        &mut self,
+        metadata: &Metadata<'_>,
+        registry: &mut Registry,
+        at: At,
+    )
+        ensures asked { AsksCallsite F.answers (plain_metadata metadata.now) at registry.old self.old self.new }
+        ensures same { registry.new ≡ registry.old }
+    {
+        let passes = self.passes(metadata, registry, at);
+        self.clear();
+        self.passed = passes;
     }
 
     // Asks its filter of the event, and marks what it answers.

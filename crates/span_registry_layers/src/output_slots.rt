@@ -6,8 +6,9 @@ ghost use Rattle.tracing_core_fields.specs.Metadata.{plain_metadata};
 ghost use Rattle.tracing_core_fields.specs.requests.PlainRequests.{plain_event};
 ghost use Rattle.span_registry_layers_store.specs.Verdicts.{all_pass};
 ghost use Rattle.span_registry_layers_layers.specs.Several.{EachInTurn};
-ghost use Rattle.span_registry_layers.specs.CommonAnswers.{AsksFrom, CommonInterest, SomePasses, common_hint};
-ghost use Rattle.span_registry_layers.specs.OutputSlots.{AsksEvent, EachBecomes, TellsEvent, filters_of, is_marked, marked};
+ghost use Rattle.span_registry_layers.specs.CommonAnswers.{AsksFrom, CommonInterest, common_hint};
+ghost use Rattle.span_registry_layers.specs.OutputSlots.{AsksCallsite, AsksEvent, EachBecomes, TellsEvent, filters_of, is_marked, marked, marks_of};
+ghost use Rattle.span_registry_layers.specs.Stacks.{some_passes};
 
 mod spans;
 
@@ -90,19 +91,28 @@ pub(crate) fn are_clear<O>(rows: &[OutputSlot<O>]) -> bool
     none_marked(rows)
 }
 
-// Whether some filter passes what is made of the callsite.
-pub(crate) fn any_passes<L: Layer, F: Filter>(
-    rows: &[OutputSlot<Filtered<L, F>>],
+// Asks the filter of each output of a callsite, and marks what it answers.
+pub(crate) fn ask_callsite<L: Layer, F: Filter>(
+    rows: &mut [OutputSlot<Filtered<L, F>>],
     metadata: &Metadata<'_>,
     registry: &mut Registry,
     at: At,
-) -> bool
-    ensures answer { SomePasses ⟦<F as Filter>⟧ (plain_metadata metadata.now) at registry.old rows.now result }
+)
+    ensures asked { EachBecomes (AsksCallsite F.answers (plain_metadata metadata.now) at registry.old) rows.old rows.new }
     ensures same { registry.new ≡ registry.old }
+{
+    for row in rows.iter_mut() {
+        row.ask_callsite(metadata, registry, at);
+    }
+}
+
+// Whether some output is marked as passing.
+pub(crate) fn some_passes<O>(rows: &[OutputSlot<O>]) -> bool
+    ensures { result ≡ some_passes (marks_of rows.now) }
 {
     let mut rest = rows;
     while let [row, later @ ..] = rest {
-        if row.passes(metadata, registry, at) {
+        if row.passed {
             return true;
         }
         rest = later;

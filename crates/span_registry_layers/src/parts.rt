@@ -6,8 +6,8 @@ ghost use Rattle.tracing_core_fields.specs.requests.PlainRequests.{plain_event};
 ghost use Rattle.span_registry_layers_store.specs.Registries.{knows};
 ghost use Rattle.span_registry_layers.specs.CommonAnswers.{CommonInterest, common_hint};
 ghost use Rattle.span_registry_layers.specs.OutputSlots.{filters_of};
-ghost use Rattle.span_registry_layers.specs.Stacks.{EventCached, EventUnless, PassesCached, PassesUnless, Registers, TellsAll, cleared};
-ghost use Rattle.span_registry_layers.specs.Stacks.{is_above, is_refused, plain_stack, with_hint};
+ghost use Rattle.span_registry_layers.specs.Stacks.{EventCached, EventUnless, MarksUnless, QuestionCached, QuestionUnless, Registers, TellsAll};
+ghost use Rattle.span_registry_layers.specs.Stacks.{cleared, is_above, is_refused, plain_stack, with_hint};
 
 mod new;
 mod spans;
@@ -16,7 +16,7 @@ mod telling;
 
 use crate::interest_cache::InterestCache;
 use crate::output_slot::OutputSlot;
-use crate::output_slots::{any_passes, are_clear, ask_hint, ask_interest, clear_marks};
+use crate::output_slots::{are_clear, ask_hint, ask_interest, clear_marks, some_passes};
 use span_registry_layers_layers::{Filter, Filtered, Layer};
 use span_registry_layers_store::Registry;
 use std::alloc::Global;
@@ -97,22 +97,34 @@ impl<L: Layer, F: Filter> StackParts<Filtered<L, F>> {
         self.hint
     }
 
-    // Whether some filter passes it, and false where it is refused.
-    pub(crate) fn passes_unless(&mut self, refused: bool, metadata: &Metadata<'_>, at: At) -> bool
-        ensures answer { PassesUnless ⟦<F as Filter>⟧ refused (plain_stack self.old) (plain_metadata metadata.now) at
-            result }
-        ensures same { plain_stack self.new ≡ plain_stack self.old }
+    // Marks what each filter answers of a callsite, and asks nobody where it is refused.
+    fn mark_unless(&mut self, refused: bool, metadata: &Metadata<'_>, at: At)
+        ensures { MarksUnless ⟦<F as Filter>⟧ refused (plain_metadata metadata.now) at (plain_stack self.old)
+            (plain_stack self.new) }
     {
-        !refused && any_passes(&self.rows, metadata, &mut self.registry, at)
+        if refused {
+            self.clear();
+        } else {
+            self.ask_callsite(metadata, at);
+        }
     }
 
-    // Whether some filter passes it, and false where what is kept refuses it.
+    // Whether some filter passes it; each is asked, and marked, and none where it is refused.
+    pub(crate) fn enabled_unless(&mut self, refused: bool, metadata: &Metadata<'_>, at: At) -> bool
+        ensures { QuestionUnless ⟦<F as Filter>⟧ refused (plain_metadata metadata.now) at (plain_stack self.old) result
+            (plain_stack self.new) }
+    {
+        self.mark_unless(refused, metadata, at);
+        some_passes(&self.rows)
+    }
+
+    // Whether some filter passes it; each is asked, and marked, and none where what is kept refuses it.
     pub(crate) fn enabled(&mut self, metadata: &Metadata<'_>, at: At) -> bool
-        ensures answer { PassesCached ⟦<F as Filter>⟧ (plain_stack self.old) (plain_metadata metadata.now) at result }
-        ensures same { plain_stack self.new ≡ plain_stack self.old }
+        ensures { QuestionCached ⟦<F as Filter>⟧ (plain_metadata metadata.now) at (plain_stack self.old) result
+            (plain_stack self.new) }
     {
         let refused = self.refuses(metadata);
-        self.passes_unless(refused, metadata, at)
+        self.enabled_unless(refused, metadata, at)
     }
 
     #[inline(always)]

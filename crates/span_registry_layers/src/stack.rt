@@ -7,7 +7,8 @@ ghost use Rattle.span_registry_layers_layers.specs.declared.filtered.Filtered.{F
 ghost use Rattle.span_registry_layers.specs.NewStack.{NewGives};
 ghost use Rattle.span_registry_layers.specs.Numbers.{HasNumbers};
 ghost use Rattle.span_registry_layers.specs.OutputSlots.{filters_of};
-ghost use Rattle.span_registry_layers.specs.Stacks.{EventAsked, EventCached, PassesAsked, PassesCached};
+ghost use Rattle.span_registry_layers.specs.Stacks.{EventAsked, EventCached, PassesAsked, PassesCached, QuestionAsked, QuestionCached};
+ghost use Rattle.span_registry_layers.specs.Stacks.{cleared};
 ghost use Rattle.span_registry_layers.specs.CacheValidity.{CacheIsValid};
 ghost use Rattle.span_registry_layers.specs.declared.output.Output.{Output};
 
@@ -119,14 +120,25 @@ impl<L: Layer, F: Filter> Stack<Filtered<L, F>> {
         self.parts.event(event, at)
     }
 
-    /// Whether some output's filter passes what is made of the callsite there and then. It leaves no mark.
+    /// Whether some output's filter passes what is made of the callsite there and then.
+    ///
+    /// Each output's filter is asked, also behind one that passes, and what it answers is marked ([`passed`](Stack::passed)); no output is
+    /// told anything. Where what is kept refuses the callsite, nobody is asked, and no mark is left.
     pub fn enabled(&mut self, metadata: &Metadata<'_>, at: At) -> bool
         ensures exact { PassesCached ⟦<F as Filter>⟧ self.old (plain_metadata metadata.now) at result }
         // With a valid cache the answer is whether some output's filter passes the callsite, by its current answer.
         ensures asking { CacheIsValid ⟦<F as Filter>⟧ self.old →
             PassesAsked ⟦<F as Filter>⟧ self.old (plain_metadata metadata.now) at result }
-        // Nothing changes.
-        ensures same { self.new ≡ self.old }
+        // What each output's filter answers is marked, or nothing where what is kept refuses the callsite; the answer is whether some mark
+        // is left.
+        ensures marks { QuestionCached ⟦<F as Filter>⟧ (plain_metadata metadata.now) at self.old result self.new }
+        // With a valid cache the marks are what each output's filter answers, asked again.
+        ensures marked { CacheIsValid ⟦<F as Filter>⟧ self.old →
+            QuestionAsked ⟦<F as Filter>⟧ (plain_metadata metadata.now) at self.old result self.new }
+        // Nothing but marks changes.
+        ensures alike { cleared self.new ≡ cleared self.old }
+        // A valid cache stays valid.
+        ensures kept { CacheIsValid ⟦<F as Filter>⟧ self.old → CacheIsValid ⟦<F as Filter>⟧ self.new }
     {
         self.parts.enabled(metadata, at)
     }

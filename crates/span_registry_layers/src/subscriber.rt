@@ -15,7 +15,8 @@ impl<L: Layer, F: Filter> Subscriber for Stack<Filtered<L, F>> {
     ghost use Rattle.span_registry_layers.specs.Moves.{Moves};
     ghost use Rattle.span_registry_layers.specs.OutputSlots.{filters_of};
     ghost use Rattle.span_registry_layers.specs.Stacks.{PassesCached};
-    ghost use Rattle.span_registry_layers.specs.Steadiness.{asked_stays, stack_fair, stack_quiet, stack_single, stack_stays};
+    ghost use Rattle.span_registry_layers.specs.Questions.{stack_quiet};
+    ghost use Rattle.span_registry_layers.specs.Steadiness.{asked_stays, stack_fair, stack_single, stack_stays};
     ghost use Rattle.span_registry_layers.specs.CacheValidity.{CacheIsValid};
 
     ghost answers = { λ x m at b. PassesCached ⟦<F as Filter>⟧ x m at b };

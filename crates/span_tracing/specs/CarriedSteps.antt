@@ -1,39 +1,29 @@
 -- The mask of a step that a trace carried out.
-use Rattle.std.specs.Prelude.{◌≤◌, Bool, List, [], ◌∷◌, length, Option, Some, None, IfSome}
-use Rattle.span_tracing_outputs.specs.TraceStacks.{TraceStackValue}
+use Rattle.std.specs.Prelude.{◌≡◌, ◌≤◌, ℕ, Bool, List, [], length, Option, Some, None, IfSome}
+use Rattle.span_registry_layers_layers.specs.declared.filter.Filter.{Ghosts as FilterGhosts}
+use Rattle.span_tracing_skeleton.specs.PlainData.{AnyStep, OfQueue, OfTrace}
+use Rattle.span_tracing_skeleton.specs.Skeleton.{Skeleton}
 use Rattle.span_tracing_skeleton.specs.declared.call.Reply.{Reply}
-use Rattle.span_tracing_skeleton.specs.declared.call.Reply.TheVariants.{Done, Enabled, Span, Closed, Handle, Guard, Worked, Refused}
-use Rattle.span_tracing_skeleton.specs.declared.call.SpanName.{SpanName}
 use Rattle.span_tracing_steps.specs.States.{held_in}
-use Rattle.span_tracing_laws.specs.runs.SpanMasks.{seen_of}
-use Rattle.span_tracing_laws.specs.runs.StepFollows.{Traced}
+use Rattle.span_tracing_laws.specs.runs.StepFollows.{Traced, skeleton_of}
+use Rattle.span_tracing_laws.specs.runs.StepMasks.{IsMask, asked_stack, marks_at, unless_refused}
+
+-- the stack whose outputs' filters a step asks; a call on a queue asks none
+abbrev pub asked_by : Skeleton → AnyStep → Option ℕ
+asked_by s (OfTrace step) = asked_stack s step
+asked_by s (OfQueue ask) = None
 
 module _ {N E F S : Type 0} where
-  -- of each output of a stack that somebody holds, whether it sees the span of a name
-  abbrev pub seen_in : Option (TraceStackValue N E F S) → SpanName → List Bool
-  seen_in None name = []
-  seen_in (Some x) name = seen_of x name
+  -- the marks that a step left in the stack that it asked; a refused step has none
+  abbrev pub mask_of : Traced N E F S → AnyStep → Reply → Traced N E F S → List Bool
+  mask_of v step reply w = unless_refused reply (marks_at (asked_by (skeleton_of v) step) w)
 
-  -- Of a span that was made: which outputs see it, in the trace that the step left. Of a question: whether some filter passes. Else none.
-  abbrev pub mask_of : Reply → Traced N E F S → List Bool
-  mask_of Done w = []
-  mask_of (Enabled wanted) w = wanted ∷ []
-  mask_of (Span None) w = []
-  mask_of (Span (Some name)) w = seen_in (held_in w name.stack) name
-  mask_of (Closed closed) w = []
-  mask_of (Handle handle) w = []
-  mask_of (Guard guard) w = []
-  mask_of (Worked lines) w = []
-  mask_of (Refused refusal) w = []
+  -- the stack has no more outputs than a mask
+  abbrev pub FitsMask : Option ℕ → Traced N E F S → Type 0
+  FitsMask None w = Unit {0}
+  FitsMask (Some stack) w = IfSome (held_in w stack) (λ x. length x.stack.rows ≤ 64)
 
-  -- the stack of a span that was made has no more outputs than a mask
-  abbrev pub FitsMask : Reply → Traced N E F S → Type 0
-  FitsMask Done w = Unit {0}
-  FitsMask (Enabled wanted) w = Unit {0}
-  FitsMask (Span None) w = Unit {0}
-  FitsMask (Span (Some name)) w = IfSome (held_in w name.stack) (λ x. length x.stack.rows ≤ 64)
-  FitsMask (Closed closed) w = Unit {0}
-  FitsMask (Handle handle) w = Unit {0}
-  FitsMask (Guard guard) w = Unit {0}
-  FitsMask (Worked lines) w = Unit {0}
-  FitsMask (Refused refusal) w = Unit {0}
+-- the mask says of each output of the stack that was asked what its filter answers of the callsite, there and then
+abbrev pub IsMaskOf : {N E F S : Type 0} → FilterGhosts F → Traced N E F S → AnyStep → Reply → List Bool → Type 0
+IsMaskOf g v (OfTrace step) reply mask = IsMask g v step reply mask
+IsMaskOf g v (OfQueue ask) reply mask = mask ≡ []

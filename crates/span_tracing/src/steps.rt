@@ -253,8 +253,8 @@ impl<N: FormatFields + Drop, E: FormatEvent, F: Filter, D: Folder, Q: LiveQueue>
     }
 
     /// Asks whether some output's filter of the stack that the lane reaches passes a callsite: by it a new span would be made, and an event
-    /// unless the filters refuse the event itself. It is `false` where the lane reaches no stack. Asking leaves no mark, and takes no
-    /// memory.
+    /// unless the filters refuse the event itself. It is `false` where the lane reaches no stack. Each output's filter is asked, and
+    /// what it answers is marked ([`passed_by`](TraceStack::passed_by)). Asking takes no memory.
     pub fn enabled(&mut self, lane: usize, moment: Moment, callsite: Identifier) -> Reply
         ensures { IsStep D.contents D.failed Q.settles ⟦<TraceStack<N, E, F, RoutedSinks<AnySink<D, Q>>> as Subscriber>⟧
             ⟦<N as FormatFields>⟧ E.line_of ⟦<F as Filter>⟧ ⟦<Layer<N, E, PendingLines> as span_registry_layers_layers::Layer>⟧ self.old

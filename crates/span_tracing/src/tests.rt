@@ -7,6 +7,7 @@ mod faulty;
 mod files;
 mod holders;
 mod live;
+mod masks;
 mod model;
 mod outputs;
 mod queue_script;

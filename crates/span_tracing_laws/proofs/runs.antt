@@ -9,6 +9,7 @@ pub mod SpanSteps
 pub mod HolderSteps
 pub mod StepFollows
 pub mod SpanMasks
+pub mod StepMasks
 pub mod DrivenSinks
 pub mod AnySteps
 pub mod Runs

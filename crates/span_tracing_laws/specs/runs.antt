@@ -3,6 +3,7 @@ pub mod StepSettings
 pub mod SwappedOutputs
 pub mod StepFollows
 pub mod SpanMasks
+pub mod StepMasks
 pub mod KeptStacks
 pub mod DrivenSinks
 pub mod AnySteps

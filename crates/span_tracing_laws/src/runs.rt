@@ -31,7 +31,8 @@ pub fn setup_follows<N: FormatFields + Drop, E: FormatEvent, F: Filter, S: LineS
 }
 
 /// A step of a trace over stacks of outputs with sinks that finds no line held goes as the skeleton and the output machines of each stack
-/// do, also of one that was released and isn't taken yet.
+/// do, also of one that was released and isn't taken yet. The marks that an event, a question or a new span leaves in the stack that its
+/// lane reached are what the filter of each output answers, asked again; a question is answered by whether some filter passes.
 pub fn plain_steps_follow<N: FormatFields + Drop, E: FormatEvent, F: Filter, S: LineSink>()
     ensures { StepsFollow ⟦<N as FormatFields>⟧ E.line_of ⟦<F as Filter>⟧ S.takes
         ⟦<Layer<N, E, PendingLines> as span_registry_layers_layers::Layer>⟧

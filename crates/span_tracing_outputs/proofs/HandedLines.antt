@@ -5,7 +5,7 @@ use Rattle.tracing_core_moments.specs.declared.at.At.{At}
 use Rattle.span_registry_layers_store.specs.SlotIndependence.{bare}
 use Rattle.span_registry_layers_store.specs.Registries.{RegistryValue}
 use Rattle.span_registry_layers_layers.specs.declared.filter.Filter.{Ghosts as FilterGhosts}
-use Rattle.span_registry_layers.specs.OutputSlots.{Afresh, AsksEventBy, EachBecomes, with_layer}
+use Rattle.span_registry_layers.specs.OutputSlots.{Afresh, AsksEventBy, EachBecomes, marks_of, with_layer}
 use Rattle.event_formatter_text.specs.declared.format_fields.FormatFields.{Ghosts}
 use Rattle.event_formatter_text.specs.declared.settings.Settings.{Settings}
 use Rattle.event_formatter.specs.formats.Contexts.{PlainContext}
@@ -18,6 +18,7 @@ use Rattle.span_tracing_outputs.specs.StackFollows.{EventGoes, Goes, LinedStack}
 use Rattle.span_tracing_outputs.specs.TraceFollows.{EachAsked, EventTold, OutputsGo, StepGoes, at_rest, lines_offered, numbers_in}
 use Rattle.span_tracing_outputs.specs.TraceStacks.{TraceStackValue}
 use Rattle.span_tracing_outputs.specs.Turns.{Lined, keys_of}
+use Rattle.span_tracing_outputs.proofs.MarkedRows.{marks_cleared}
 use Rattle.span_tracing_outputs.proofs.OutputFolds.{folded}
 
 module _ {N E F : Type 0} where
@@ -189,4 +190,5 @@ module _ {N E F : Type 0} (n : Ghosts N) (line_of : E → Settings → PlainCont
                 (subst (λ (nss : List (List Notice)). EachAgrees n line_of g mid.registry mid.rows (outs_told n nss outs event.folds.fates))
                 same (event.folds.agreed outs there)) over;
           },
+          ap (λ (s : LinedStack N E F). marks_of s.rows) over.1 ∙ (marks_cleared mid.rows ∙ event.marks),
         )

@@ -7,6 +7,10 @@ pub mod LayerAgreement
 pub mod Turns
 pub mod Rows
 pub mod ClosedSpans
+pub mod VerdictLists
+pub mod OutputNumbers
+pub mod SeenSpans
+pub mod MarkedRows
 pub mod Stacks
 pub mod OutputFolds
 pub mod OutputSettings
@@ -16,9 +20,6 @@ pub mod OutputSinkPairs
 pub mod CallsWithoutNotices
 pub mod HandedLines
 pub mod SpanAnswers
-pub mod VerdictLists
-pub mod OutputNumbers
-pub mod SeenSpans
 pub mod TraceFollows
 pub mod OutputsWithoutNotices
 pub mod StackReadiness

@@ -112,5 +112,6 @@ module _ {N E F : Type 0} (n : Ghosts N) (line_of : E → Settings → PlainCont
               t.rows goes.2;
           agreed = asked_agree e at s.registry s.registry s.rows goes.0 goes.1;
           lists = lists_by_mask (bare s.registry) at e s.registry goes.0;
+          marks = goes.4;
         };
       }

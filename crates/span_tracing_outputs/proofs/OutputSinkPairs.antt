@@ -9,9 +9,9 @@ use Rattle.span_registry_layers_layers.specs.declared.filtered.Filtered.{Filtere
 use Rattle.span_registry_layers_layers.specs.declared.layer.Layer.{Ghosts as LayerGhosts}
 use Rattle.span_registry_layers.specs.Moves.{Moves}
 use Rattle.span_registry_layers.specs.OutputSlots.{EachBecomes}
-use Rattle.span_registry_layers.specs.Stacks.{StackValue}
+use Rattle.span_registry_layers.specs.Stacks.{StackValue, is_refused}
 use Rattle.span_registry_layers.specs.Steps.{SameKeys, clone_keeps, close_keeps, dispatch_keeps, enter_keeps, event_keeps, exit_keeps}
-use Rattle.span_registry_layers.specs.Steps.{follows_keeps, keys_put, record_keeps, span_keeps}
+use Rattle.span_registry_layers.specs.Steps.{follows_keeps, keys_put, question_keeps, record_keeps, span_keeps}
 use Rattle.span_tracing_outputs.specs.SinkLines.{HandsOver, NoLines, TakesEach, cleared_row}
 use Rattle.span_tracing_outputs.specs.OutputMachines.{PlainLine}
 use Rattle.span_tracing_outputs.specs.StackFollows.{LinedStack}
@@ -45,7 +45,7 @@ module _ {L F : Type 0} (g : FilterGhosts F) (h : LayerGhosts L) where
       EachBecomes (SameKeys g h) s.rows t.rows
   moves_keys s (DispatchRegistered dispatch) r t m = (dispatch_keeps g h dispatch s t m).keys
   moves_keys s (CallsiteRegistered n) r t m = same_rows s t (ap (λ (v : StackValue (Filtered L F)). v.rows) m.1.1)
-  moves_keys s (Asked n at) r t m = same_rows s t (ap (λ (v : StackValue (Filtered L F)). v.rows) m.1)
+  moves_keys s (Asked n at) r t m = (question_keeps g h (is_refused s n) n at s t m.0).keys
   moves_keys s HintAsked r t m = same_rows s t (ap (λ (v : StackValue (Filtered L F)). v.rows) m.1)
   moves_keys s (SpanMade a at) r t m = (span_keeps g h a at s t r m).keys
   moves_keys s (Recorded id values at) r t m = (record_keeps g h id values at s t r m).keys

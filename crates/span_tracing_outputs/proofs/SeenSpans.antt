@@ -44,30 +44,36 @@ found_last (x ∷ xs) new below =
     rw apart (found_last xs new below.1)
 
 module _ {N E F : Type 0} where
-  sees_kept : (k y : RegistryValue) (id : ℕ) (s : PlainSpan) (row : Lined N E F) → bare y ≡ k → found kin_in k.spans id ≡ Some s →
-      sees y id row ≡ passes_at s.passed row.id.index
-  sees_kept k y id s row same there =
+  -- slots have no say in what an output sees
+  pub sees_by : (k y : RegistryValue) (id : ℕ) (row : Lined N E F) → bare y ≡ k → sees y id row ≡ sees k id row
+  sees_by k y id row same =
       let mask = Some row.id.index in
       sym (still_there (slotted (λ ps. [])) (seen y mask id))
-      ∙ (ap is_some (sym (seen_slotted (λ ps. []) y mask id))
-      ∙ (ap (λ (z : RegistryValue). is_some (seen z mask id)) same
-      ∙ (ap (λ (o : Option PlainSpan). is_some (seen_if mask o)) there ∙ is_there (passes_at s.passed row.id.index) s)))
+      ∙ (ap is_some (sym (seen_slotted (λ ps. []) y mask id)) ∙ ap (λ (z : RegistryValue). is_some (seen z mask id)) same)
+
+  each_by : (k y : RegistryValue) (id : ℕ) (rows : List (Lined N E F)) → bare y ≡ k → each_sees y id rows ≡ each_sees k id rows
+  each_by k y id [] same = refl
+  each_by k y id (row ∷ rows) same =
+      ap (λ b. b ∷ each_sees y id rows) (sees_by k y id row same) ∙ ap (λ bs. sees k id row ∷ bs) (each_by k y id rows same)
 
   -- each output sees what its filter passed
-  pub each_kept : (k y : RegistryValue) (id : ℕ) (s : PlainSpan) (rows : List (Lined N E F)) → bare y ≡ k →
-      found kin_in k.spans id ≡ Some s → each_sees y id rows ≡ map (passes_at s.passed) (numbers_in rows)
-  each_kept k y id s [] same there = refl
-  each_kept k y id s (row ∷ rows) same there =
-      ap (λ b. b ∷ each_sees y id rows) (sees_kept k y id s row same there) ∙
-      ap (λ bs. passes_at s.passed row.id.index ∷ bs) (each_kept k y id s rows same there)
+  each_there : (k : RegistryValue) (id : ℕ) (s : PlainSpan) (rows : List (Lined N E F)) → found kin_in k.spans id ≡ Some s →
+      each_sees k id rows ≡ map (passes_at s.passed) (numbers_in rows)
+  each_there k id s [] there = refl
+  each_there k id s (row ∷ rows) there =
+      ap (λ b. b ∷ each_sees k id rows)
+      (ap (λ (o : Option PlainSpan). is_some (seen_if (Some row.id.index) o)) there ∙ is_there (passes_at s.passed row.id.index) s) ∙
+      ap (λ bs. passes_at s.passed row.id.index ∷ bs) (each_there k id s rows there)
 
   module _ (n : Ghosts N) (line_of : E → Settings → PlainContext → PlainEvent → Option (List ℕ)) (g : FilterGhosts F) where
-    -- of a span that was made with what the filters answered
+    -- of a span that was made with what the filters answered, also while outputs are told of it
     pub seen_made : (a : PlainAttributes) (at : At) (s mid t : LinedStack N E F) (answers : List Bool) (ns : ℕ → List Notice) (id : ℕ) →
         AreFirst (numbers_in s.rows) → IsSound s.registry → EachAnswers g.answers a.metadata at s.registry s.rows answers →
         id ≡ s.registry.next_id →
         Goes n line_of g ns (made_in n line_of g (bare s.registry) a at (verdicts_from all_pass (numbers_in s.rows) answers)) s mid →
-        t ≡ record mid { rows = map cleared_row mid.rows } → each_sees t.registry id t.rows ≡ answers
+        t ≡ record mid { rows = map cleared_row mid.rows } →
+        (each_sees t.registry id t.rows ≡ answers)
+        × (each_sees (made_in n line_of g (bare s.registry) a at (verdicts_from all_pass (numbers_in s.rows) answers)) id s.rows ≡ answers)
     seen_made a at s mid t answers ns id first sound each is goes over =
         let k = bare s.registry in
         let verdicts = verdicts_from all_pass (numbers_in s.rows) answers in
@@ -85,5 +91,10 @@ module _ {N E F : Type 0} where
         ∙ (numbers_cleared mid.rows ∙
         numbers_followed n line_of g (λ row. ns row.id.index) s.registry s.rows mid.registry mid.rows goes.0) in
         let padded = answers_padded g.answers a.metadata at s.registry s.rows answers first each in
-        each_kept wide t.registry id new t.rows same there
-        ∙ (ap (map (passes_at verdicts)) (numbers ∙ padded.0) ∙ answers_at verdicts 0 answers (drop (length answers) all_pass) padded.1)
+        let told : map (passes_at verdicts) (numbers_in s.rows) ≡ answers =
+        ap (map (passes_at verdicts)) padded.0 ∙ answers_at verdicts 0 answers (drop (length answers) all_pass) padded.1 in
+        (
+          each_by wide t.registry id t.rows same ∙
+              (each_there wide id new t.rows there ∙ (ap (map (passes_at verdicts)) numbers ∙ told)),
+          each_there wide id new s.rows there ∙ told,
+        )

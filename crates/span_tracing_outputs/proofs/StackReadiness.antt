@@ -1,10 +1,11 @@
 -- A stack that is ready for a call is ready afterwards.
-use Rattle.std.proofs.Common.{◌≡◌, ◌==◌, ℕ, List, [], ◌∷◌, length, true, Option, refl, ap, sym, ◌∙◌, subst, arith}
+use Rattle.std.proofs.Common.{◌≡◌, ◌==◌, ℕ, Bool, List, [], ◌∷◌, length, true, Option, refl, ap, sym, ◌∙◌, subst, arith}
 use Rattle.std.proofs.lemmas.Bool.{eqb-true}
 use Rattle.std.proofs.lemmas.Bool.Decides.{nat_tests}
 use Rattle.tracing_core_fields.specs.requests.Calls.{Call, ReplyTo, DispatchRegistered, CallsiteRegistered, Asked, HintAsked, SpanMade}
 use Rattle.tracing_core_fields.specs.requests.Calls.{Recorded, FollowsRecorded, EventAsked, EventDispatched, Entered, Exited, Cloned}
 use Rattle.tracing_core_fields.specs.requests.Calls.{Dropped, CloseTried, CurrentAsked}
+use Rattle.tracing_core_fields.specs.PlainMetadata.{PlainMetadata}
 use Rattle.tracing_core_fields.specs.requests.PlainRequests.{PlainEvent}
 use Rattle.tracing_core_moments.specs.declared.at.At.{At}
 use Rattle.span_registry_layers_store.specs.Laws.{IsSound}
@@ -12,7 +13,9 @@ use Rattle.span_registry_layers_layers.specs.Notices as notices
 use Rattle.span_registry_layers_layers.specs.declared.filter.Filter.{Ghosts as FilterGhosts}
 use Rattle.span_registry_layers_layers.specs.declared.layer.Layer.{Ghosts as LayerGhosts}
 use Rattle.span_registry_layers.specs.OutputSlots.{EachBecomes}
+use Rattle.span_registry_layers.specs.Questions.{question_alike}
 use Rattle.span_registry_layers.specs.Soundness.{StackStaysSound}
+use Rattle.span_registry_layers.specs.Stacks.{is_refused}
 use Rattle.span_registry_layers.specs.Steps.{SameKeys}
 use Rattle.event_formatter_text.specs.declared.format_fields.FormatFields.{Ghosts}
 use Rattle.event_formatter_text.specs.declared.settings.Settings.{Settings}
@@ -29,6 +32,7 @@ use Rattle.span_tracing_outputs.specs.Turns.{AreDistinct, Lined, Lines, keys_of}
 use Rattle.span_tracing_outputs.proofs.OutputSinkPairs.{hands_paired, moves_keys, moves_length}
 use Rattle.span_tracing_outputs.proofs.CallsWithoutNotices.{dispatch_same}
 use Rattle.span_tracing_outputs.proofs.HandedLines.{keys_cleared}
+use Rattle.span_tracing_outputs.proofs.MarkedRows.{lines_marked, lines_unmarked}
 use Rattle.span_tracing_outputs.proofs.OutputNumbers.{numbers_cleared, numbers_moved}
 
 equal_self : (a : ℕ) → (a == a) ≡ true
@@ -76,6 +80,22 @@ module _ {N E F S : Type 0} (n : Ghosts N) (line_of : E → Settings → PlainCo
       rest = (ap length w.1 ∙ ready.rest.0 ∙ sym (ap length rows), subst NoLines (sym rows) ready.rest.1);
     }
 
+    -- a question leaves marks alone
+    marked_ready : (x : TraceStackValue N E F S) (m : PlainMetadata) (at : At) (r : Bool) (y : TraceStackValue N E F S) → IsReady g x →
+        TraceMoves g h takes x (Asked m at) r y → IsReady g y
+    marked_ready x m at r y ready w =
+        let same = ap (λ (s : LinedStack N E F). s.rows) (question_alike g (is_refused x.stack m) m at x.stack y.stack w.0.0) in
+        record {
+          valid = (trace_stays g h takes x (Asked m at) r y w ready.valid).0;
+          sound = sound x.stack (Asked m at) r y.stack w.0 ready.sound;
+          keys = subst AreDistinct (sym (same_keys x.stack.rows y.stack.rows (moves_keys g h x.stack (Asked m at) r y.stack w.0))) ready.keys;
+          numbers = subst AreFirst (sym (numbers_moved g h unnumbered x.stack (Asked m at) r y.stack w.0)) ready.numbers;
+          rest = (
+            ap length w.1 ∙ ready.rest.0 ∙ sym (moves_length g h x.stack (Asked m at) r y.stack w.0),
+            lines_unmarked y.stack.rows (subst NoLines (sym same) (lines_marked x.stack.rows ready.rest.1)),
+          );
+        }
+
     pub stays_ready : (x : TraceStackValue N E F S) (c : Call) (r : ReplyTo c) (y : TraceStackValue N E F S) → IsReady g x →
         TraceMoves g h takes x c r y → IsReady g y
     stays_ready x (DispatchRegistered dispatch) r y ready w =
@@ -83,7 +103,7 @@ module _ {N E F S : Type 0} (n : Ghosts N) (line_of : E → Settings → PlainCo
         (ap (λ (s : LinedStack N E F). s.rows) (dispatch_same n line_of g h says dispatch x.stack y.stack w.0))
     stays_ready x (CallsiteRegistered m) r y ready w = left_ready x (CallsiteRegistered m) r y ready w w
         (ap (λ (s : LinedStack N E F). s.rows) w.0.1.1)
-    stays_ready x (Asked m at) r y ready w = left_ready x (Asked m at) r y ready w w (ap (λ (s : LinedStack N E F). s.rows) w.0.1)
+    stays_ready x (Asked m at) r y ready w = marked_ready x m at r y ready w
     stays_ready x HintAsked r y ready w = left_ready x HintAsked r y ready w w (ap (λ (s : LinedStack N E F). s.rows) w.0.1)
     stays_ready x (SpanMade a at) r y ready w = handed_ready at x (SpanMade a at) r y ready w w
     stays_ready x (Recorded id values at) r y ready w = handed_ready at x (Recorded id values at) r y ready w w

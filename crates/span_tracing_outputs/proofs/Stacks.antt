@@ -39,6 +39,7 @@ use Rattle.span_tracing_outputs.specs.Turns.{AreDistinct, EachFollows, EachFollo
 use Rattle.span_tracing_outputs.specs.Turns.{own}
 use Rattle.span_tracing_outputs.proofs.ClosedSpans.{each_lanes, exit_follows, sound_rising, sweep_follows}
 use Rattle.span_tracing_outputs.proofs.KeptSpans.{seen_found}
+use Rattle.span_tracing_outputs.proofs.MarkedRows.{event_marks, made_marks}
 use Rattle.span_tracing_outputs.proofs.Rows.{events_bare, events_follow, mades_bare, mades_follow, spans_bare, spans_follow}
 
 -- a span more
@@ -208,6 +209,7 @@ module _ {N E F : Type 0} (n : Ghosts N) (line_of : E → Settings → PlainCont
             subst (λ (x : RegistryValue). EachFollows n line_of g (λ row. event_told k at e row.told row.id.index) x asked.rows t.registry
                 t.rows) registry follows,
             events_bare n line_of g follow h says e at asked.registry asked.rows t.registry t.rows turns.0 ∙ ap bare registry,
+            event_marks g h e at asked.registry asked.rows t.registry t.rows turns.0,
           ),
         )
     event_by false s t e at r distinct (reply, same) = (reply, same)
@@ -321,6 +323,12 @@ module _ {N E F : Type 0} (n : Ghosts N) (line_of : E → Settings → PlainCont
                     (λ row. span_told (made_in n line_of g k a at verdicts) at (Made a) k.next_id row.id.index) s.rows t.rows heard,
                 mades_bare n line_of g follow h says (Made a) k.next_id at wide s.rows t.registry t.rows turns.0 ∙ same,
               ),
+              made_marks g h (Rattle.span_registry_layers_layers.specs.FilterViews.SpanMade a id) id at
+                  (λ x row y later told. mades_bare n line_of g follow h says (Made a) id at x (row ∷ []) y (later ∷ []) (y, told, refl))
+                  (made_in n line_of g k a at verdicts) wide s.rows t.registry t.rows same
+                  (subst (λ (z : RegistryValue). RowsInTurn
+                  (Rattle.span_registry_layers.specs.SpanNotices.TellsMade g h
+                  (Rattle.span_registry_layers_layers.specs.FilterViews.SpanMade a id) id at) (over z s) t) given.1 made.1).0,
             )
     made_goes s t a at verdicts r distinct (Err e, x, gives, made) =
         subst (λ (q : Result (Option ℕ) RequestError). IfMade q s (λ id. SpanGoes n line_of g a at verdicts s id t) t) (sym made.0) made.1

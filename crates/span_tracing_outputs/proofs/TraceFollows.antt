@@ -15,10 +15,11 @@ use Rattle.span_registry_layers_store.specs.Registries.{without_handle}
 use Rattle.span_registry_layers_store.specs.Verdicts.{all_pass}
 use Rattle.span_registry_layers_layers.specs.declared.filter.Filter.{Ghosts as FilterGhosts}
 use Rattle.span_registry_layers_layers.specs.declared.layer.Layer.{Ghosts as LayerGhosts}
-use Rattle.span_registry_layers.specs.Caches.{event_is_asked, passes_is_asked, span_is_asked}
+use Rattle.span_registry_layers.specs.Caches.{event_is_asked, passes_is_asked, question_is_asked, span_is_asked}
 use Rattle.span_registry_layers.specs.Calls.{CloseUnless, SpanAfresh, SpanKnown}
-use Rattle.span_registry_layers.specs.OutputSlots.{marked}
-use Rattle.span_registry_layers.specs.Stacks.{WhereKnown, cleared}
+use Rattle.span_registry_layers.specs.OutputSlots.{Afresh, marked, marks_of}
+use Rattle.span_registry_layers.specs.Questions.{question_alike, question_passes}
+use Rattle.span_registry_layers.specs.Stacks.{WhereKnown, cleared, is_refused}
 use Rattle.event_formatter_text.specs.declared.format_fields.FormatFields.{Ghosts}
 use Rattle.event_formatter_text.specs.declared.settings.Settings.{Settings}
 use Rattle.event_formatter.specs.formats.Contexts.{PlainContext}
@@ -36,6 +37,7 @@ use Rattle.span_tracing_outputs.specs.TraceFollows.{CloseIf, EventIf, IsReady, R
 use Rattle.span_tracing_outputs.specs.TraceFollows.{TraceGoes, numbers_in, verdicts_from}
 use Rattle.span_tracing_outputs.specs.TraceStacks.{TraceMoves, TraceStackValue}
 use Rattle.span_tracing_outputs.specs.Turns.{Lined, Lines}
+use Rattle.span_tracing_outputs.proofs.MarkedRows.{lines_marked, marks_answer, marks_cleared}
 use Rattle.span_tracing_outputs.proofs.SeenSpans.{seen_made}
 use Rattle.span_tracing_outputs.proofs.SpanAnswers.{asks_answer}
 use Rattle.span_tracing_outputs.proofs.CallsWithoutNotices.{clones_agree, dispatch_same, follows_same}
@@ -60,10 +62,6 @@ marked_twice : {N E F : Type 0} (rows : List (Lined N E F)) → map (marked fals
 marked_twice [] = refl
 marked_twice (row ∷ rows) = ap (λ (ls : List (Lined _ _ _)). marked false row ∷ ls) (marked_twice rows)
 
-none_marked : {N E F : Type 0} (rows : List (Lined N E F)) → NoLines rows → NoLines (map (marked false) rows)
-none_marked [] none = tt
-none_marked (row ∷ rows) none = (none.0, none_marked rows none.1)
-
 module _ {N E F S : Type 0} (n : Ghosts N) (line_of : E → Settings → PlainContext → PlainEvent → Option (List ℕ)) (g : FilterGhosts F)
     (takes : S → At → PlainLine → S → Type 0) where
   agrees_marked : (x : RegistryValue) (rows : List (Lined N E F)) (outs : List (Numbered N)) → EachAgrees n line_of g x rows outs →
@@ -72,6 +70,23 @@ module _ {N E F S : Type 0} (n : Ghosts N) (line_of : E → Settings → PlainCo
   agrees_marked x [] (o ∷ outs) agrees = absurd agrees
   agrees_marked x (row ∷ rows) [] agrees = absurd agrees
   agrees_marked x (row ∷ rows) (o ∷ outs) agrees = (agrees.0, agrees_marked x rows outs agrees.1)
+
+  agrees_unmarked : (x : RegistryValue) (rows : List (Lined N E F)) (outs : List (Numbered N)) →
+      EachAgrees n line_of g x (map (marked false) rows) outs → EachAgrees n line_of g x rows outs
+  agrees_unmarked x [] [] agrees = tt
+  agrees_unmarked x [] (o ∷ outs) agrees = absurd agrees
+  agrees_unmarked x (row ∷ rows) [] agrees = absurd agrees
+  agrees_unmarked x (row ∷ rows) (o ∷ outs) agrees = (agrees.0, agrees_unmarked x rows outs agrees.1)
+
+  -- a stack with other marks alone
+  rests_alike : (x y : TraceStackValue N E F S) → cleared y.stack ≡ cleared x.stack → y.sinks ≡ x.sinks → Rests n line_of g takes x y
+  rests_alike x y same sinks = record {
+    sinks = sinks;
+    rows = ap (λ (s : LinedStack N E F). s.rows) same;
+    agreed = λ outs agrees. agrees_unmarked y.stack.registry y.stack.rows outs
+        (subst (λ (s : LinedStack N E F). EachAgrees n line_of g s.registry s.rows outs) (sym same)
+        (agrees_marked x.stack.registry x.stack.rows outs agrees));
+  }
 
   -- a stack with another cache alone
   rests_by : (x y : TraceStackValue N E F S) → y.stack.registry ≡ x.stack.registry → y.stack.rows ≡ x.stack.rows → y.sinks ≡ x.sinks →
@@ -125,7 +140,7 @@ module _ {N E F S : Type 0} (n : Ghosts N) (line_of : E → Settings → PlainCo
             NewSpanGoes n line_of g takes h a at x r y
         span_afresh a r known (inl w) =
             let both = hands_same takes at x y mid
-            (subst (λ (s : LinedStack N E F). NoLines s.rows) (sym w.2) (none_marked x.stack.rows none)) over in
+            (subst (λ (s : LinedStack N E F). NoLines s.rows) (sym w.2) (lines_marked x.stack.rows none)) over in
             let stack : y.stack ≡ cleared x.stack = both.0 ∙ w.2 in
             subst (λ (q : Result (Option ℕ) RequestError). NewSpanGoes n line_of g takes h a at x q y) (sym w.1) (
               known,
@@ -150,6 +165,8 @@ module _ {N E F S : Type 0} (n : Ghosts N) (line_of : E → Settings → PlainCo
                 let passed = verdicts_from all_pass (numbers_in x.stack.rows) answer.0 in
                 let wide = made_in n line_of g k a at passed in
                 let goes_so = subst (λ (bs : List Bool). stacks.SpanGoes n line_of g a at bs x.stack id mid) answer.2 goes in
+                let seen = seen_made n line_of g a at x.stack mid y.stack answer.0 (span_told wide at (Made a) k.next_id) id ready.numbers
+                ready.sound answer.1 goes_so.1 goes_so.2 over.1 in
                 subst (λ (q : Result (Option ℕ) RequestError). NewSpanGoes n line_of g takes h a at x q y) (sym rest.0) (
                   answer.0,
                   answer.1,
@@ -157,8 +174,8 @@ module _ {N E F S : Type 0} (n : Ghosts N) (line_of : E → Settings → PlainCo
                   goes_so.0,
                   goes_so.1,
                   step_goes n line_of g takes at (span_told wide at (Made a) k.next_id) wide x y mid goes_so.2 over,
-                  seen_made n line_of g a at x.stack mid y.stack answer.0 (span_told wide at (Made a) k.next_id) id ready.numbers
-                      ready.sound answer.1 goes_so.1 goes_so.2 over.1,
+                  seen.0,
+                  ap (λ (s : LinedStack N E F). marks_of s.rows) over.1 ∙ (marks_cleared mid.rows ∙ (goes_so.3 ∙ seen.1)),
                 )
             made (Err e, z, gives, rest) =
                 let answer = asks_answer g h unnumbered a.metadata at x.stack.registry all_pass false x.stack.rows w.0 true w.1 in
@@ -187,7 +204,16 @@ module _ {N E F S : Type 0} (n : Ghosts N) (line_of : E → Settings → PlainCo
     goes x (DispatchRegistered dispatch) r y ready w = same_value x y (dispatch_same n line_of g h says dispatch x.stack y.stack w.0) w.1
     goes x (CallsiteRegistered m) r y ready w =
         (w.0.0, w.0.1, rests_by x y (ap (λ (s : LinedStack N E F). s.registry) w.0.1.1) (ap (λ (s : LinedStack N E F). s.rows) w.0.1.1) w.1)
-    goes x (Asked m at) r y ready w = (passes_is_asked g x.stack m at r ready.valid w.0.0, same_value x y w.0.1 w.1)
+    goes x (Asked m at) r y ready w =
+        let refused = is_refused x.stack m in
+        let asked = question_is_asked g m at x.stack r y.stack ready.valid w.0 in
+        let same = question_alike g refused m at x.stack y.stack w.0.0 in (
+          marks_answer g (Afresh g) m at x.stack.registry x.stack.rows y.stack.rows asked.0.0,
+          asked.1,
+          passes_is_asked g x.stack m at r ready.valid (question_passes g refused m at x.stack r y.stack w.0),
+          same,
+          rests_alike x y same w.1,
+        )
     goes x HintAsked r y ready w = (
       w.0.0,
       w.0.1,

@@ -5,7 +5,7 @@ use Rattle.tracing_core_moments.specs.declared.at.At.{At}
 use Rattle.span_registry_layers_store.specs.SlotIndependence.{bare}
 use Rattle.span_registry_layers_store.specs.Registries.{RegistryValue}
 use Rattle.span_registry_layers_layers.specs.declared.filter.Filter.{Ghosts as FilterGhosts}
-use Rattle.span_registry_layers.specs.OutputSlots.{Afresh, AsksEventBy, EachBecomes}
+use Rattle.span_registry_layers.specs.OutputSlots.{Afresh, AsksEventBy, EachBecomes, marks_of}
 use Rattle.event_formatter_text.specs.declared.format_fields.FormatFields.{Ghosts}
 use Rattle.event_formatter_text.specs.declared.settings.Settings.{Settings}
 use Rattle.event_formatter.specs.formats.Contexts.{PlainContext}
@@ -92,6 +92,7 @@ module _ {N E F : Type 0} (n : Ghosts N) (line_of : E → Settings → PlainCont
     pub lists : (outs : List (Numbered N)) → EachAgrees s.registry asked outs →
         map (λ row. event_told (bare s.registry) at e row.told row.id.index) asked ≡ event_lists (bare s.registry) at e
         (map (λ row. row.told) asked) outs
+    pub marks : marks_of t.rows ≡ marks_of asked
 
   -- outputs that go through their notices fold them
   pub record FollowingFolds : Type 0 where

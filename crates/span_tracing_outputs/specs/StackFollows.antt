@@ -12,7 +12,8 @@ use Rattle.span_registry_layers_layers.specs.declared.filter.Filter.{Ghosts as F
 use Rattle.span_registry_layers_layers.specs.declared.filtered.Filtered.{Filtered}
 use Rattle.span_registry_layers_layers.specs.declared.layer.Layer.{Ghosts as LayerGhosts}
 use Rattle.span_registry_layers.specs.Calls.{CloseGives, EnterGives, ExitGives, MakesSpan, RecordGives}
-use Rattle.span_registry_layers.specs.OutputSlots.{Afresh, AsksEventBy, EachBecomes}
+use Rattle.span_registry_layers.specs.OutputSlots.{Afresh, AsksEventBy, EachBecomes, marks_of}
+use Rattle.span_registry_layers.specs.SpanNotices.{each_sees}
 use Rattle.span_registry_layers.specs.Stacks.{EventAsked, StackValue, WhereKnown}
 use Rattle.event_formatter_text.specs.declared.format_fields.FormatFields.{Ghosts}
 use Rattle.event_formatter_text.specs.declared.settings.Settings.{Settings}
@@ -41,14 +42,14 @@ module _ {N E F : Type 0} (n : Ghosts N) (line_of : E → Settings → PlainCont
   abbrev pub Goes : (ℕ → List Notice) → RegistryValue → LinedStack N E F → LinedStack N E F → Type 0
   Goes ns left s t = EachFollows n line_of g (λ row. ns row.id.index) s.registry s.rows t.registry t.rows × (bare t.registry ≡ left)
 
-  -- each filter was asked of the event, and then each output goes through the notice where its filter passed it
+  -- each filter was asked of the event, and marked, and then each output goes through the notice where its filter passed it
   abbrev pub EventGoes : PlainEvent → At → LinedStack N E F → LinedStack N E F → Type 0
   EventGoes e at s t =
       (asked : List (Lined N E F)) × EachBecomes (AsksEventBy g (Afresh g) e at s.registry) s.rows asked
       × EachFollows n line_of g (λ row. event_told (bare s.registry) at e row.told row.id.index) s.registry asked t.registry t.rows ×
-      (bare t.registry ≡ bare s.registry)
+      (bare t.registry ≡ bare s.registry) × (marks_of t.rows ≡ marks_of asked)
 
-  -- the span that is made, and what its outputs are told
+  -- the span that is made, what its outputs are told, and the marks that are left: whether each output's filter passed it
   abbrev pub made_in : RegistryValue → PlainAttributes → At → List Bool → RegistryValue
   made_in k a at verdicts = with_span k a.metadata (under k at.lane a.parent) verdicts
 
@@ -56,7 +57,8 @@ module _ {N E F : Type 0} (n : Ghosts N) (line_of : E → Settings → PlainCont
   SpanGoes a at verdicts s id t =
       let k = bare s.registry in
       (span_refusal s.registry a.parent ≡ None) × (id ≡ s.registry.next_id) ×
-      Goes (span_told (made_in k a at verdicts) at (Made a) k.next_id) (made_in k a at verdicts) s t
+      Goes (span_told (made_in k a at verdicts) at (Made a) k.next_id) (made_in k a at verdicts) s t ×
+      (marks_of t.rows ≡ each_sees (made_in k a at verdicts) id s.rows)
 
   abbrev pub CloseGoes : Option RequestError → ℕ → At → LinedStack N E F → LinedStack N E F → Type 0
   CloseGoes None id at s t = let k = bare s.registry in Goes (close_told k at id) (swept (without_handle k id)) s t

@@ -24,7 +24,7 @@ use Rattle.span_registry_layers_layers.specs.declared.layer.Layer.{Ghosts as Lay
 use Rattle.span_registry_layers.specs.CommonAnswers.{CommonInterest, common_hint}
 use Rattle.span_registry_layers.specs.CacheValidity.{CacheIsValid}
 use Rattle.span_registry_layers.specs.Calls.{AllRefuse, current_in, over}
-use Rattle.span_registry_layers.specs.OutputSlots.{Afresh, filters_of, marked, view_of}
+use Rattle.span_registry_layers.specs.OutputSlots.{Afresh, filters_of, marked, marks_of, view_of}
 use Rattle.span_registry_layers.specs.SpanNotices.{each_sees}
 use Rattle.span_registry_layers.specs.Stacks.{PassesAsked, Registers, cleared, with_hint}
 use Rattle.event_formatter_text.specs.declared.format_fields.FormatFields.{Ghosts}
@@ -127,12 +127,12 @@ module _ {N E F S : Type 0} (n : Ghosts N) (line_of : E → Settings → PlainCo
     pub agreed : (outs : List (Numbered N)) → EachAgrees n line_of g x.stack.registry x.stack.rows outs →
         EachAgrees n line_of g y.stack.registry y.stack.rows outs
 
-  -- the filters answer, and those outputs are told of the event whose filter passed it
+  -- the filters answer, and are marked, and those outputs are told of the event whose filter passed it
   abbrev pub EventTold : PlainEvent → At → TraceStackValue N E F S → TraceStackValue N E F S → Type 0
   EventTold e at x y =
       let k = bare x.stack.registry in
       (passed : List Bool) × (told : List Bool) × EachAsked g e at x.stack.registry x.stack.rows passed told ×
-      StepGoes at (event_lists k at e told) k x y
+      StepGoes at (event_lists k at e told) k x y × (marks_of y.stack.rows ≡ passed)
 
   -- where a parent that is named is open; else all stays
   abbrev pub EventIf : Bool → PlainEvent → At → TraceStackValue N E F S → Result (Unit {0}) RequestError → TraceStackValue N E F S → Type 0
@@ -145,8 +145,8 @@ module _ {N E F S : Type 0} (n : Ghosts N) (line_of : E → Settings → PlainCo
   TakenUnless refusal (Ok done) x goes y = (refusal ≡ None) × goes
   TakenUnless refusal (Err e) x goes y = RefusedBy refusal e × (y ≡ x)
 
-  -- the filters answer of a span, and some passes it: it has the next id, and those outputs are told of it, and see it, whose filter
-  -- passed it
+  -- the filters answer of a span, and some passes it: it has the next id, and those outputs are told of it, see it and are marked, whose
+  -- filter passed it
   abbrev pub MadeGoes : PlainAttributes → At → TraceStackValue N E F S → ℕ → TraceStackValue N E F S → Type 0
   MadeGoes a at x id y =
       let k = bare x.stack.registry in
@@ -154,7 +154,7 @@ module _ {N E F S : Type 0} (n : Ghosts N) (line_of : E → Settings → PlainCo
       (span_refusal x.stack.registry a.parent ≡ None) × (id ≡ k.next_id)
       × (let made = made_in n line_of g k a at (verdicts_from all_pass (numbers_in x.stack.rows) passed) in
       StepGoes at (call_lists (span_told made at (calls.Made a) k.next_id)) made x y)
-      × (each_sees y.stack.registry id y.stack.rows ≡ passed)
+      × (each_sees y.stack.registry id y.stack.rows ≡ passed) × (marks_of y.stack.rows ≡ passed)
 
   -- a handle goes, and then the closes are told; where there is none all stays
   abbrev pub CloseIf : Option RequestError → ℕ → At → TraceStackValue N E F S → Bool → TraceStackValue N E F S → Type 0
@@ -180,11 +180,17 @@ module _ {N E F S : Type 0} (n : Ghosts N) (line_of : E → Settings → PlainCo
     NewSpanGoes a at x (Err e) y = RefusedBy (span_refusal x.stack.registry a.parent) e ×
         (e ≡ OutOfMemory → SomePassesSpan a.metadata at x) × (y ≡ x)
 
+    -- A question: each output's filter answers, asked again, and is marked; some mark is the answer. Marks alone change.
+    abbrev pub QuestionGoes : PlainMetadata → At → TraceStackValue N E F S → Bool → TraceStackValue N E F S → Type 0
+    QuestionGoes m at x r y =
+        EachAnswers (Afresh g) m at x.stack.registry x.stack.rows (marks_of y.stack.rows) × (r ≡ some_passes (marks_of y.stack.rows))
+        × PassesAsked g x.stack m at r × (cleared y.stack ≡ cleared x.stack) × Rests x y
+
     -- what a call answers, and what it makes of the outputs and of the sinks
     abbrev pub TraceGoes : TraceStackValue N E F S → (c : Call) → ReplyTo c → TraceStackValue N E F S → Type 0
     TraceGoes x (DispatchRegistered dispatch) r y = y ≡ x
     TraceGoes x (CallsiteRegistered m) r y = CommonInterest g m (filters_of x.stack.rows) r × Registers m r x.stack y.stack × Rests x y
-    TraceGoes x (Asked m at) r y = PassesAsked g x.stack m at r × (y ≡ x)
+    TraceGoes x (Asked m at) r y = QuestionGoes m at x r y
     TraceGoes x HintAsked r y = (r ≡ common_hint g (Some 0) (filters_of x.stack.rows)) × (y.stack ≡ with_hint r x.stack) × Rests x y
     TraceGoes x (SpanMade a at) r y = NewSpanGoes a at x r y
     TraceGoes x (Recorded id values at) r y =

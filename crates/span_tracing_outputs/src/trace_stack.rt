@@ -2,6 +2,7 @@
 ghost use Rattle.std.specs.Prelude.{◌≡◌, ◌≤◌, ◌++◌, IfOk, IsTrue, length, nat_eq, take, true};
 ghost use Rattle.span_registry_layers_store.specs.Verdicts.{all_pass};
 ghost use Rattle.span_registry_layers.specs.CacheValidity.{CacheIsValid};
+ghost use Rattle.span_registry_layers.specs.OutputSlots.{marks_of};
 ghost use Rattle.span_registry_layers.specs.SpanNotices.{each_sees};
 ghost use Rattle.span_registry_layers.specs.Stacks.{cleared, is_above};
 ghost use Rattle.span_tracing_outputs.specs.TraceStacks.{IsAtRest, NewGives};
@@ -85,6 +86,18 @@ fn seen_in<O>(stack: &Stack<O>, span: &Id) -> [bool; 64]
     seen
 }
 
+// Of each of the first outputs of a stack, whether its filter passed the callsite of the last request.
+fn passed_in<O>(stack: &Stack<O>) -> [bool; 64]
+    ensures exact { result ≡ take 64 (marks_of stack.now.rows ++ all_pass) }
+    ensures outputs { length stack.now.rows ≤ 64 → take (length stack.now.rows) result ≡ marks_of stack.now.rows }
+{
+    let mut passed = [true; 64];
+    for place in 0..64 {
+        passed[place] = stack.passed(place).unwrap_or(true);
+    }
+    passed
+}
+
 impl<N: FormatFields + Drop, E: FormatEvent, F: Filter, S: LineSink> TraceStack<N, E, F, S> {
     /// Gives each output of a stack the sink at its place. Lines that outputs kept before are forgotten.
     ///
@@ -144,6 +157,16 @@ impl<N, E, F, S: LineSink> TraceStack<N, E, F, S> {
         seen_in(&self.stack, span)
     }
 
+    /// Of each output, by its place, whether its filter passed the callsite of the last question, or of the last event or new span that was
+    /// handed over: the mask of that request. Behind the last output each place has `true`.
+    pub fn passed_by(&self) -> [bool; 64]
+        ensures exact { result ≡ take 64 (marks_of self.now.stack.rows ++ all_pass) }
+        // Where there are no more outputs, as in each stack that is ready, the first places tell of all of them.
+        ensures outputs { length self.now.stack.rows ≤ 64 → take (length self.now.stack.rows) result ≡ marks_of self.now.stack.rows }
+    {
+        passed_in(&self.stack)
+    }
+
     /// The sinks, each at the place of its output.
     pub fn sinks(&self) -> &[S]
         ensures { result.now ≡ self.now.sinks }
@@ -160,7 +183,8 @@ impl<N: FormatFields + Drop, E: FormatEvent, F: Filter, S: LineSink> Subscriber
     ghost use Rattle.span_registry_layers.specs.CacheValidity.{CacheIsValid};
     ghost use Rattle.span_registry_layers.specs.OutputSlots.{filters_of};
     ghost use Rattle.span_registry_layers.specs.Stacks.{PassesCached};
-    ghost use Rattle.span_registry_layers.specs.Steadiness.{asked_stays, stack_fair, stack_quiet, stack_single};
+    ghost use Rattle.span_registry_layers.specs.Questions.{stack_quiet};
+    ghost use Rattle.span_registry_layers.specs.Steadiness.{asked_stays, stack_fair, stack_single};
     ghost use Rattle.span_tracing_outputs.specs.TraceStacks.{TraceMoves};
     ghost use Rattle.span_tracing_outputs.specs.TraceSteadiness.{trace_stays};
 

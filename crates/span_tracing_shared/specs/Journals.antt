@@ -19,8 +19,8 @@ use Rattle.span_tracing_skeleton.specs.declared.refusal.Refusal.TheVariants.{Unk
 use Rattle.span_tracing_skeleton.specs.declared.refusal.Refusal.TheVariants as refusals
 use Rattle.span_tracing_skeleton.specs.declared.setting.OutputPlace.{OutputPlace}
 
--- the lane of a seat, the step by it, what it answered, and a mask. Of a new span the mask says which outputs' filters passed it, of a
--- question whether some filter did; of all else, events too, the machine reads none, and a trace leaves it empty
+-- the lane of a seat, the step by it, what it answered, and a mask: of each output whether its filter passed the callsite of an event, a
+-- question or a new span. Of a new span the machine reads all of it, of a question whether some filter passed, and of all else nothing
 pub record PlainEntry : Type 0 where
   pub lane : ℕ
   pub step : AnyStep

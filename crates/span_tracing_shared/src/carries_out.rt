@@ -39,8 +39,8 @@ pub trait CarriesOut: Drop {
         ensures { result ≡ length (skeleton self.now).lanes };
 
     /// Carries out a step. It answers the reply, and the mask from which the machine reads what filters answered: of a new span what that of
-    /// each output did, and of a question whether some passed. Where it refuses the step for lack of memory, or since a line is held, what
-    /// decides replies is as it was.
+    /// each output did, and of a question whether some passed; of all else it reads nothing. Where it refuses the step for lack of memory, or
+    /// since a line is held, what decides replies is as it was.
     fn carry_out(&mut self, step: &Step) -> (Reply, Mask)
         requires { ready self.old }
         ensures ready { ready self.new }

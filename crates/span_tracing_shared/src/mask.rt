@@ -3,8 +3,8 @@ ghost use Rattle.std.specs.Prelude.{◌≡◌, ◌≤◌, [], ◌∷◌, ◌++�
 
 use std::marker::Model;
 
-/// What filters answered to a step: of a new span what that of each output of the reached stack did, in order, and of a question whether
-/// some passed. It has none where no filter was asked. A contract sees it as a list.
+/// What filters answered to a step: of an event, a question and a new span what that of each output of the reached stack did of the callsite,
+/// in order. It is empty where no filter was asked, and of a refused step. A contract sees it as a list.
 #[derive(Debug, Drop)]
 pub struct Mask {
     outputs: usize,

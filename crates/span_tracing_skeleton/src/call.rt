@@ -108,7 +108,7 @@ pub enum Step {
     /// from then on, and the handle stays as it was.
     SetGlobalDefault(usize),
     Event(EventCall),
-    /// Asks whether a request would be made. It is no request, and leaves no mark.
+    /// Asks whether a request would be made: each output's filter is asked, and its answer marked. It is no request, and tells nobody.
     Enabled(EnabledCall),
     NewSpan(NewSpanCall),
     /// Adds values to a span's.

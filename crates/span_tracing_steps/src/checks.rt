@@ -28,7 +28,7 @@ impl<T: Subscriber + HasRegistry> TraceParts<T> {
 
     /// The number of the stack that a lane reaches.
     #[inline(always)]
-    pub(crate) fn reach(&self, lane: usize) -> Option<usize>
+    pub fn reach(&self, lane: usize) -> Option<usize>
         ensures { result ≡ reach (skeleton_of T.registry_of (value_in self.now)) lane }
     {
         let handle = self.hub.reached(lane as u64);

@@ -1,18 +1,19 @@
 //! Telling the outputs of a stack of events and spans.
+ghost use Rattle.tracing_core_fields.specs.Metadata.{plain_metadata};
 ghost use Rattle.tracing_core_fields.specs.requests.PlainRequests.{plain_attributes, plain_event, plain_record};
 ghost use Rattle.span_registry_layers_layers.specs.FilterViews.{Recorded, SpanMade};
 ghost use Rattle.span_registry_layers.specs.SpanNotices.{TellsDispatch, TellsFollows, TellsMade, TellsSpan};
-ghost use Rattle.span_registry_layers.specs.OutputSlots.{AsksEvent, TellsEvent};
+ghost use Rattle.span_registry_layers.specs.OutputSlots.{AsksCallsite, AsksEvent, TellsEvent};
 ghost use Rattle.span_registry_layers.specs.SpanSteps.{hook_of};
 ghost use Rattle.span_registry_layers.specs.Stacks.{RowsBecome, RowsInTurn, plain_stack};
 
 use crate::output_slot::SpanStep;
 use crate::output_slots::{
-    ask_event, tell_dispatch, tell_event, tell_follows, tell_new_span, tell_record, tell_step,
+    ask_callsite, ask_event, tell_dispatch, tell_event, tell_follows, tell_new_span, tell_record, tell_step,
 };
 use crate::parts::StackParts;
 use span_registry_layers_layers::{Filter, Filtered, Layer};
-use tracing_core_fields::{Attributes, Event, Id, Record, WeakDispatch};
+use tracing_core_fields::{Attributes, Event, Id, Metadata, Record, WeakDispatch};
 use tracing_core_moments::At;
 
 impl<L: Layer, F: Filter> StackParts<Filtered<L, F>> {
@@ -23,6 +24,14 @@ impl<L: Layer, F: Filter> StackParts<Filtered<L, F>> {
             (plain_stack self.old) (plain_stack self.new) }
     {
         ask_event(&mut self.rows, event, &mut self.registry, at);
+    }
+
+    // Asks the outputs' own filters of a callsite, and marks what they answer.
+    pub(super) fn ask_callsite(&mut self, metadata: &Metadata<'_>, at: At)
+        ensures { RowsBecome (AsksCallsite F.answers (plain_metadata metadata.now) at (plain_stack self.old).registry)
+            (plain_stack self.old) (plain_stack self.new) }
+    {
+        ask_callsite(&mut self.rows, metadata, &mut self.registry, at);
     }
 
     // Tells each output whose filter passes it.

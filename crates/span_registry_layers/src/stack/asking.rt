@@ -4,7 +4,8 @@ ghost use Rattle.tracing_core_fields.specs.Metadata.{plain_metadata};
 ghost use Rattle.tracing_core_fields.specs.requests.PlainRequests.{plain_attributes, plain_event};
 ghost use Rattle.span_registry_layers.specs.Calls.{SpanAsked, SpanByAnswers};
 ghost use Rattle.span_registry_layers.specs.CacheValidity.{CacheIsValid};
-ghost use Rattle.span_registry_layers.specs.Stacks.{EventAsked, EventByAnswers, PassesAsked, PassesByAnswers};
+ghost use Rattle.span_registry_layers.specs.Stacks.{EventAsked, EventByAnswers, PassesAsked, PassesByAnswers, QuestionAsked};
+ghost use Rattle.span_registry_layers.specs.Stacks.{QuestionByAnswers, cleared};
 
 use crate::stack::Stack;
 use span_registry_layers_layers::{Filter, Filtered, Layer};
@@ -12,14 +13,21 @@ use tracing_core_fields::{Attributes, Event, Id, Metadata, RequestError};
 use tracing_core_moments::At;
 
 impl<L: Layer, F: Filter> Stack<Filtered<L, F>> {
-    /// The same as `enabled`, with the filters asked now, in order, until one passes: what is kept of their answers
-    /// has no say. So it promises what `enabled` does, whether what is kept is right or not.
+    /// The same as `enabled`, with every output's filter asked now, in order: what is kept of their answers has no say. So it promises what
+    /// `enabled` does, whether what is kept is right or not.
     pub fn enabled_asking(&mut self, metadata: &Metadata<'_>, at: At) -> bool
         ensures exact { PassesByAnswers ⟦<F as Filter>⟧ self.old (plain_metadata metadata.now) at result }
         ensures asking { PassesAsked ⟦<F as Filter>⟧ self.old (plain_metadata metadata.now) at result }
-        ensures same { self.new ≡ self.old }
+        // What each output's filter answers is marked, and the answer is whether some mark is left.
+        ensures marks { QuestionByAnswers ⟦<F as Filter>⟧ (plain_metadata metadata.now) at self.old result self.new }
+        // The marks are what each output's filter answers, asked again.
+        ensures marked { QuestionAsked ⟦<F as Filter>⟧ (plain_metadata metadata.now) at self.old result self.new }
+        // Nothing but marks changes.
+        ensures alike { cleared self.new ≡ cleared self.old }
+        // A valid cache stays valid.
+        ensures kept { CacheIsValid ⟦<F as Filter>⟧ self.old → CacheIsValid ⟦<F as Filter>⟧ self.new }
     {
-        self.parts.passes_unless(false, metadata, at)
+        self.parts.enabled_unless(false, metadata, at)
     }
 
     /// The same as `event`, with every output's own filter asked now: what is kept of their answers has no say. So it

@@ -47,8 +47,8 @@ impl<O> Stack<O> {
         }
     }
 
-    /// Whether the filter of the output at this place passed the callsite of the last event or new span that
-    /// was handed over.
+    /// Whether the filter of the output at this place passed the callsite of the last question, or of the last event or new span that was
+    /// handed over.
     pub fn passed(&self, output: usize) -> Option<bool>
         ensures { result ≡ option_map (λ row. row.passed) (slice_get self.now.rows output) }
     {
@@ -59,7 +59,7 @@ impl<O> Stack<O> {
     }
 
     /// Whether the output at this place was told of the last event or new span that was handed over: its
-    /// filter passed the callsite and, of an event, the event itself.
+    /// filter passed the callsite and, of an event, the event itself. After a question no output was told.
     pub fn told(&self, output: usize) -> Option<bool>
         ensures { result ≡ option_map (λ row. row.told) (slice_get self.now.rows output) }
     {

@@ -82,11 +82,11 @@ fn was_told<F: Filter>(
     }
 }
 
-/// Hands an INFO event over, and answers whether it would be made.
+/// Answers whether an INFO event would be made, and hands it over.
 fn tell_info(stack: &mut Stack<Counted>) -> bool {
     let metadata = event_metadata("app", Level::INFO);
     let event = Event::new(&metadata, no_values(&metadata));
-    stack.event(&event, PLACE).is_ok() && stack.enabled(&metadata, PLACE)
+    stack.enabled(&metadata, PLACE) && stack.event(&event, PLACE).is_ok()
 }
 
 /// Makes an INFO span, and records on it.

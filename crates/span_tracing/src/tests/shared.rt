@@ -114,9 +114,9 @@ fn share<L: Ledger + Send + Sync, R: Abort + AllocGlobal + Threads + Wait + Sync
         assert_eq!(rt; done_by(lane, journal.as_slice()), 54);
     }
     for entry in journal.as_slice() {
-        let is_made = matches!(*entry.step, Step::NewSpan(_));
-        assert_eq!(rt; entry.mask.len(), if is_made { 1 } else { 0 });
-        assert!(rt; !is_made || entry.mask.get(0) == Some(true));
+        let is_asked = matches!(*entry.step, Step::NewSpan(_) | Step::Event(_));
+        assert_eq!(rt; entry.mask.len(), if is_asked { 1 } else { 0 });
+        assert!(rt; !is_asked || entry.mask.get(0) == Some(true));
     }
     lines_are_whole(rt, &trace)
 }

@@ -145,12 +145,16 @@ module _ {N E F S : Type 0} (n : Ghosts N) (line_of : E → Settings → PlainCo
       let here = place_at ask.lane ask.moment in
       let (x, there) = reached_there n line_of g takes h v ask.lane stack at in
       let call = called stack x (Asked m here) goes.0 v w ready there goes.1 in
-      let asks = λ (number : ℕ) (d : PlainMetadata) (b : Answers). AnswersQuestion g h (held_in v number) d here b in
-      rested n line_of g takes h v (EnabledStep ask) reply w (Wanted goes.0) none refl
-      (subst (λ (o : Option ℕ). AskedWhere o (named s.callsites ask.callsite.0) asks (Wanted goes.0)) (sym at)
-      (subst (λ (c : Option PlainMetadata). AskedWhere (Some stack) c asks (Wanted goes.0)) (sym is)
-      (subst (λ (o : Option Stack). AnswersQuestion g h o m here (Wanted goes.0)) (sym there) call.1.0))) goes.2 refl refl
-      (stays v w stack x call.0 there call.2 call.1.1) ready
+      let asks = λ (number : ℕ) (d : PlainMetadata) (b : Answers). AnswersQuestion g h (held_in v number) d here b in (
+        made n line_of g takes h v (EnabledStep ask) reply w (Wanted goes.0) [] none refl
+            (subst (λ (o : Option ℕ). AskedWhere o (named s.callsites ask.callsite.0) asks (Wanted goes.0)) (sym at)
+            (subst (λ (c : Option PlainMetadata). AskedWhere (Some stack) c asks (Wanted goes.0)) (sym is)
+            (subst (λ (o : Option Stack). AnswersQuestion g h o m here (Wanted goes.0)) (sym there) call.1.2))) goes.2
+            (skeleton_stays n line_of g takes h v w stack x call.0 there call.2
+            (ap (λ (z : StackValue (Filtered (Lines N E) F)). bare z.registry) call.1.3))
+            (outputs_after n line_of g takes h v w stack x call.0 None [] tt there call.2 call.1.4),
+        call.3,
+      )
 
   -- a new span that nothing refuses but want of memory
   pub span_refused : (s : Skeleton) (x : Stack) (lane stack : ℕ) (parent : Parent) (error : RequestError) → reach s lane ≡ Some stack →

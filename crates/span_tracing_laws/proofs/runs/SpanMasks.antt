@@ -12,6 +12,7 @@ use Rattle.span_registry_layers_store.specs.Registries.{RegistryValue, with_span
 use Rattle.span_registry_layers_store.specs.Verdicts.{all_pass}
 use Rattle.span_registry_layers_layers.specs.declared.filter.Filter.{Ghosts as FilterGhosts}
 use Rattle.span_registry_layers_layers.specs.declared.layer.Layer.{Ghosts as LayerGhosts}
+use Rattle.span_registry_layers.specs.OutputSlots.{marks_of}
 use Rattle.span_registry_layers.specs.SpanNotices.{each_sees}
 use Rattle.event_formatter_text.specs.declared.format_fields.FormatFields.{Ghosts}
 use Rattle.event_formatter_text.specs.declared.settings.Settings.{Settings}
@@ -66,8 +67,8 @@ module _ {N E F S : Type 0} (n : Ghosts N) (line_of : E → Settings → PlainCo
       skeleton_of w ≡ with_made (skeleton_of v) (Some stack) q (Some m) (verdicts_from all_pass (numbers_in x.stack.rows) answers) →
       Passed (verdicts_from all_pass (numbers_in x.stack.rows) answers) ≡ read_of answers → some_passes answers ≡ true →
       held_in w stack ≡ Some y → length y.stack.rows ≤ 64 → each_sees y.stack.registry id y.stack.rows ≡ answers →
-      SpanIsRead v q (name_of stack id) w
-  read_by v q w stack m id x y answers at is none next above left same some there few seen =
+      marks_of y.stack.rows ≡ answers → SpanIsRead v q (name_of stack id) w
+  read_by v q w stack m id x y answers at is none next above left same some there few seen marked =
       let s = skeleton_of v in
       let passed = verdicts_from all_pass (numbers_in x.stack.rows) answers in
       let own : seen_of y (name_of stack id) ≡ answers = ap (λ (i : ℕ). each_sees y.stack.registry i y.stack.rows) (own_id id above) ∙
@@ -80,7 +81,9 @@ module _ {N E F S : Type 0} (n : Ghosts N) (line_of : E → Settings → PlainCo
       ap (λ (o : Option ℕ). with_made s o q (known s q.callsite true) passed) (sym at)) in
       record {
         stack = y;
+        reached = at;
         there = there;
+        marked = marked ∙ sym own;
         few = few;
         some = ap some_passes own ∙ some;
         replied = replied ∙ (ap (λ (o : Option Refusal). or_refused o (answered s (SpanStep q) (Passed passed))) (sym none) ∙
@@ -118,7 +121,7 @@ module _ {N E F S : Type 0} (n : Ghosts N) (line_of : E → Settings → PlainCo
       (subst (λ i. 0 < i) (sym call.1.4) one.sound.started)
       (skeleton_after n line_of g takes h v w stack y (with_new (registry_at s stack)) call.2 (call.1.5.skeleton ∙ ap with_new (sym home)))
       (ap Passed (answers_padded g.answers m here x.stack.registry x.stack.rows answers one.numbers call.1.1).1) call.1.2 held
-      (few_rows y.stack.rows (call.3.stacks stack y held).numbers) call.1.6)
+      (few_rows y.stack.rows (call.3.stacks stack y held).numbers) call.1.6 call.1.7)
 
   read_unless : (o : Option Refusal) (v : Traced N E F S) (q : Request) (name : SpanName) (w : Traced N E F S) →
       refusal_of (skeleton_of v) (SpanStep q) ≡ o → TraceIsReady g h v →

@@ -1,9 +1,9 @@
 -- Laws of steps and runs.
-use Rattle.std.specs.Prelude.{◌≡◌, ◌==◌, if◌then◌else◌, is_some, Bool, Err, ℕ, false, List, Option, Some, Result, Ok}
+use Rattle.std.specs.Prelude.{◌≡◌, ◌==◌, if◌then◌else◌, is_some, Bool, Err, ℕ, false, List, Option, Some, None, Result, Ok}
 use Rattle.tracing_core_fields.specs.PlainMetadata.{PlainMetadata}
 use Rattle.tracing_core_fields.specs.requests.Interests.{PlainInterest}
 use Rattle.span_tracing_outputs.specs.OutputFolds.{Numbered}
-use Rattle.span_tracing_outputs.specs.TraceFollows.{IsReady}
+use Rattle.span_tracing_outputs.specs.TraceFollows.{IsReady, some_passes}
 use Rattle.span_tracing_skeleton.specs.declared.refusal.Refusal.{Refusal}
 use Rattle.span_tracing_steps.specs.Asking.{AsksAnew}
 use Rattle.span_tracing_steps.specs.FilterSwaps.{SwapGives}
@@ -22,16 +22,17 @@ use Rattle.span_tracing_outputs.specs.OutputFilters.{StackSwap}
 use Rattle.span_tracing_outputs.specs.OutputSettings.{outputs_in, stack_set}
 use Rattle.span_tracing_outputs.specs.TraceStacks.{TraceStackValue}
 use Rattle.span_tracing_outputs.specs.Turns.{Lines}
-use Rattle.span_tracing_skeleton.specs.PlainData.{AnyStep, PlainStep, Request, SpanStep}
+use Rattle.span_tracing_skeleton.specs.PlainData.{AnyStep, EnabledStep, PlainStep, Request, SpanStep}
 use Rattle.span_tracing_skeleton.specs.declared.call.Reply.{Reply}
-use Rattle.span_tracing_skeleton.specs.declared.call.Reply.TheVariants.{Span}
+use Rattle.span_tracing_skeleton.specs.declared.call.Reply.TheVariants.{Enabled, Span}
+use Rattle.span_tracing_skeleton.specs.declared.call.EnabledCall.{EnabledCall}
 use Rattle.span_tracing_skeleton.specs.declared.call.SpanName.{SpanName}
 use Rattle.span_tracing_skeleton.specs.declared.queue_call.QueueCall.{QueueCall}
 use Rattle.span_tracing_steps.specs.AnySteps.{AnyStepGives}
 use Rattle.span_tracing_steps.specs.States.{PlainThread, new_state, stack_in}
 use Rattle.span_registry_layers_store.specs.SlotIndependence.{bare}
 use Rattle.span_tracing_skeleton.specs.Counting.{IsCounted}
-use Rattle.span_tracing_skeleton.specs.Looking.{named}
+use Rattle.span_tracing_skeleton.specs.Looking.{named, reach}
 use Rattle.span_tracing_skeleton.specs.Setup.{with_callsite, with_stack}
 use Rattle.span_tracing_skeleton.specs.Skeleton.{Skeleton}
 use Rattle.span_tracing_steps.specs.Steps.{StepGives}
@@ -40,6 +41,7 @@ use Rattle.span_tracing_laws.specs.runs.SwappedOutputs.{stack_filtered, swapped_
 use Rattle.span_tracing_laws.specs.runs.KeptStacks.{OutsAgree, StackKeeps, StackStays, TraceKeeps}
 use Rattle.span_tracing_laws.specs.runs.Runs.{Road, RunFollows, RunGives}
 use Rattle.span_tracing_laws.specs.runs.SpanMasks.{SpanIsRead}
+use Rattle.span_tracing_laws.specs.runs.StepMasks.{IsMask, marks_at, mask_of}
 use Rattle.span_tracing_laws.specs.runs.StepFollows.{Follows, TraceIsReady, Traced, registry_of, skeleton_of}
 
 -- a callsite that isn't known is kept behind the others; a known one, and a refused call, change nothing
@@ -50,12 +52,21 @@ Registers s m (Err refusal) t = t ≡ s
 module _ {N E F S : Type 0} (n : Ghosts N) (line_of : E → Settings → PlainContext → PlainEvent → Option (List ℕ)) (g : FilterGhosts F)
     (takes : S → At → PlainLine → S → Type 0) (h : LayerGhosts (Lines N E)) (sg : SubscriberGhosts (TraceStackValue N E F S)) where
   -- Each step of a trace over stacks with sinks follows the skeleton and the output machines, and leaves the trace ready for the next one.
-  -- What was answered of a span that is made can be read off it: it is what the outputs see.
+  -- What was answered of a span that is made can be read off it: it is what the outputs see. The marks that an event, a question or a new
+  -- span leaves in the stack that it asked are what each output's filter answered; a question is answered by whether one passed, and a
+  -- span is dropped where none did.
   pub record StepsFollow : Type 0 where
     pub each : (v : Traced N E F S) (step : PlainStep) (reply : Reply) (w : Traced N E F S) → TraceIsReady g h v →
         StepGives sg registry_of stack_set v step reply w → Follows n line_of g takes h v step reply w × TraceIsReady g h w
     pub read : (v : Traced N E F S) (q : Request) (name : SpanName) (w : Traced N E F S) → TraceIsReady g h v →
         StepGives sg registry_of stack_set v (SpanStep q) (Span (Some name)) w → SpanIsRead v q name w
+    pub masked : (v : Traced N E F S) (step : PlainStep) (reply : Reply) (w : Traced N E F S) → TraceIsReady g h v →
+        StepGives sg registry_of stack_set v step reply w → IsMask g v step reply (mask_of v step reply w)
+    pub wanted : (v : Traced N E F S) (call : EnabledCall) (b : Bool) (w : Traced N E F S) → TraceIsReady g h v →
+        StepGives sg registry_of stack_set v (EnabledStep call) (Enabled b) w →
+        some_passes (marks_at (reach (skeleton_of v) call.lane) w) ≡ b
+    pub dropped : (v : Traced N E F S) (q : Request) (w : Traced N E F S) → TraceIsReady g h v →
+        StepGives sg registry_of stack_set v (SpanStep q) (Span None) w → some_passes (marks_at (reach (skeleton_of v) q.lane) w) ≡ false
 
   -- so does a run of steps, on each road
   abbrev pub RunsFollow : (ℕ → QueueCall → List S → Reply → List S → Type 0) → (List S → Bool) → Type 0

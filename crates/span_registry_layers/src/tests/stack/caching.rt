@@ -97,6 +97,24 @@ fn a_kept_hint_is_asked_in_the_place_of_filters(rt: HostRuntime) -> Result<(), F
 }
 
 #[test]
+fn a_question_asks_each_output_once(rt: HostRuntime) -> Result<(), Fail> {
+    let mut outputs = Vec::new(rt.alloc());
+    for key in 1..4u32 {
+        let filter = Counting::new(LevelFilter::INFO);
+        push_output(&mut outputs, key, new_journal(rt.alloc()), filter)?;
+    }
+    let mut stack = Stack::new(rt.alloc(), outputs).ok().ok_or("a stack")?;
+    assert!(rt; stack.enabled(&event_metadata("app", Level::INFO), PLACE));
+    for output in 0..3 {
+        let asked = stack.output(output).ok_or("an output")?.filter().asked.get();
+        assert_eq!(rt; (asked, stack.passed(output)), (1, Some(true)));
+    }
+    assert!(rt; !stack.enabled(&event_metadata("app", Level::DEBUG), PLACE));
+    assert!(rt; asked(&stack) == 1 && stack.passed(2) == Some(false));
+    Ok(())
+}
+
+#[test]
 fn a_kept_refusal_is_asked_in_the_place_of_filters(rt: HostRuntime) -> Result<(), Fail> {
     let mut stack = counting_stack(rt.alloc(), LevelFilter::INFO)?;
     let metadata = event_metadata("app", Level::DEBUG);
@@ -156,6 +174,7 @@ fn an_asking_span_and_probe_are_asked_of_filters(rt: HostRuntime) -> Result<(), 
     let mut stack = counting_stack(rt.alloc(), LevelFilter::INFO)?;
     let debug = metadata_at(8, "s", "app", Level::DEBUG, Kind::SPAN);
     assert!(rt; !stack.enabled_asking(&debug, PLACE) && asked(&stack) == 1);
+    assert!(rt; stack.passed(0) == Some(false) && stack.told(0) == Some(false));
     let dropped = stack.new_span_asking(&Attributes::new(&debug, no_values(&debug)), PLACE)?;
     assert!(rt; dropped.is_none() && asked(&stack) == 2);
     let info = metadata_at(8, "s", "app", Level::INFO, Kind::SPAN);

@@ -16,14 +16,41 @@ fn each_output_is_told_what_its_filter_passes(rt: HostRuntime) -> Result<(), Fai
     Ok(())
 }
 
+/// Of each of three outputs, whether it passed the last request, and whether none was told of it.
+fn marks<F: Filter>(stack: &Stack<Journaled<F>>) -> ([Option<bool>; 3], bool) {
+    let marks = [stack.passed(0), stack.passed(1), stack.passed(2)];
+    let quiet = [stack.told(0), stack.told(1), stack.told(2)] == [Some(false); 3];
+    (marks, quiet)
+}
+
 #[test]
-fn a_probe_leaves_no_mark(rt: HostRuntime) -> Result<(), Fail> {
-    let mut stack = stack_of(rt.alloc(), LevelFilter::INFO, LevelFilter::DEBUG)?;
+fn a_question_marks_each_output_and_tells_none(rt: HostRuntime) -> Result<(), Fail> {
+    let mut outputs = Vec::new(rt.alloc());
+    for (key, filter) in [
+        (1, LevelFilter::INFO),
+        (2, LevelFilter::OFF),
+        (3, LevelFilter::DEBUG),
+    ] {
+        push_output(&mut outputs, key, new_journal(rt.alloc()), filter)?;
+    }
+    let mut stack = Stack::new(rt.alloc(), outputs).ok().ok_or("a stack")?;
+    let info = event_metadata("app", Level::INFO);
+    assert!(rt; stack.enabled(&info, PLACE));
+    let some = [Some(true), Some(false), Some(true)];
+    assert_eq!(rt; marks(&stack), (some, true));
+    // An event after it is asked anew, and so is a question after an event.
     tell(&mut stack, "app", Level::DEBUG)?;
-    let metadata = event_metadata("app", Level::INFO);
-    assert!(rt; stack.enabled(&metadata, PLACE));
-    assert!(rt; stack.passed(0) == Some(false) && stack.passed(1) == Some(true));
-    assert!(rt; was_told(&stack, 0, &[]));
+    let last = [Some(false), Some(false), Some(true)];
+    assert_eq!(rt; marks(&stack), (last, false));
+    assert!(rt; stack.enabled_asking(&info, PLACE));
+    assert_eq!(rt; marks(&stack), (some, true));
+    assert!(rt; make(&mut stack, "app", Level::DEBUG)?.is_some());
+    assert_eq!(rt; marks(&stack), (last, false));
+    // Above the hint nobody is asked, and no mark is left.
+    assert!(rt; !stack.enabled(&event_metadata("app", Level::TRACE), PLACE));
+    assert_eq!(rt; marks(&stack), ([Some(false); 3], true));
+    assert!(rt; stack.ignores(Level::TRACE));
+    assert!(rt; was_told(&stack, 0, &[]) && was_told(&stack, 1, &[]));
     Ok(())
 }
 

@@ -3,6 +3,7 @@ use Rattle.span_tracing_outputs.specs.TraceStacks.{TraceStackValue}
 use Rattle.span_tracing_outputs.specs.contracts.trace_stack.TraceStackSubscriber.TheImpl.{ghosts}
 use Rattle.span_tracing_laws.proofs.runs.SpanMasks.{step_read}
 use Rattle.span_tracing_laws.proofs.runs.StepFollows.{step_follows}
+use Rattle.span_tracing_laws.proofs.runs.StepMasks.{question_wanted, span_dropped, step_masked}
 use Rattle.span_tracing_laws.proofs.runs.plain_steps_follow.Goals as goal
 
 pub returns : goal.returns
@@ -14,6 +15,15 @@ returns g c =
           (λ (x : TraceStackValue _ _ _ _) (call : Call) (r : ReplyTo call) (y : TraceStackValue _ _ _ _). λ moved. moved)
           c.trace_follows.ensures;
       read = step_read g.N.FormatFields g.E.FormatEvent.line_of g.F.Filter g.S.LineSink.takes _ sg
+          (λ (x : TraceStackValue _ _ _ _) (call : Call) (r : ReplyTo call) (y : TraceStackValue _ _ _ _). λ moved. moved)
+          c.trace_follows.ensures;
+      masked = step_masked g.N.FormatFields g.E.FormatEvent.line_of g.F.Filter g.S.LineSink.takes _ sg
+          (λ (x : TraceStackValue _ _ _ _) (call : Call) (r : ReplyTo call) (y : TraceStackValue _ _ _ _). λ moved. moved)
+          c.trace_follows.ensures;
+      wanted = question_wanted g.N.FormatFields g.E.FormatEvent.line_of g.F.Filter g.S.LineSink.takes _ sg
+          (λ (x : TraceStackValue _ _ _ _) (call : Call) (r : ReplyTo call) (y : TraceStackValue _ _ _ _). λ moved. moved)
+          c.trace_follows.ensures;
+      dropped = span_dropped g.N.FormatFields g.E.FormatEvent.line_of g.F.Filter g.S.LineSink.takes _ sg
           (λ (x : TraceStackValue _ _ _ _) (call : Call) (r : ReplyTo call) (y : TraceStackValue _ _ _ _). λ moved. moved)
           c.trace_follows.ensures;
     }
