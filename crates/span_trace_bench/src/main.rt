@@ -4,6 +4,7 @@
 mod bench;
 mod counting;
 mod fault;
+mod four;
 mod lines;
 mod live;
 mod program;
