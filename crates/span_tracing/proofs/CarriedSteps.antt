@@ -43,11 +43,10 @@ use Rattle.span_tracing_laws.specs.runs.DrivenSinks.{drives}
 use Rattle.span_tracing_laws.specs.runs.Files.{FileTrace}
 use Rattle.span_tracing_laws.specs.runs.Laws.{StepsFollow}
 use Rattle.span_tracing_laws.specs.runs.SpanMasks.{read_of, seen_of}
-use Rattle.span_tracing_laws.specs.runs.StepMasks.{StepMask, asked_stack, marks_at, marks_in, unless_refused}
+use Rattle.span_tracing_laws.specs.runs.StepMasks.{MaskIf, StepMask, asked_stack, marks_at, marks_in, unless_refused}
 use Rattle.span_tracing_laws.specs.runs.StepMasks.{mask_of as step_mask}
 use Rattle.span_tracing_laws.specs.runs.StepFollows.{FindsNoMemory, FollowsStep, IsAnswered, TraceIsReady, Traced, registry_of, skeleton_of}
 use Rattle.span_tracing.specs.CarriedSteps.{FitsMask, IsMaskOf, asked_by, mask_of}
-use Rattle.span_tracing_laws.proofs.runs.StepMasks.{by_refusal}
 use Rattle.span_tracing.specs.Ready.{FileStepGives}
 use Rattle.span_tracing.proofs.QueueReplies.{driven_told}
 
@@ -55,6 +54,11 @@ use Rattle.span_tracing.proofs.QueueReplies.{driven_told}
 pub record Carried (s : Skeleton) (step : AnyStep) (reply : Reply) (mask : List Bool) (t : Skeleton) : Type 0 where
   pub left : t ≡ next_by (counts reply) s step mask
   pub replied : reply ≡ reply_if (counts reply) s step mask reply
+
+-- a refused step has no mask
+by_refusal : (reply : Reply) (answers : List Bool → Type 0) (mask : List Bool) (refusal : Refusal) → reply ≡ Refused refusal →
+    MaskIf reply answers (unless_refused reply mask)
+by_refusal reply answers mask refusal is = subst (λ r. MaskIf r answers (unless_refused r mask)) (sym is) refl
 
 -- a step that doesn't count changes nothing
 pub uncounted : (s : Skeleton) (step : AnyStep) (reply : Reply) (mask : List Bool) (t : Skeleton) → counts reply ≡ false → t ≡ s →
