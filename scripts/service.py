@@ -16,8 +16,13 @@ from kit import rt
 from real_files import compared, files, first_of, limited
 
 PROGRAM = "examples_service"
-# How many lines the service makes for both files.
-LINES = 32
+# How many lines the service makes for both files: two of each job.
+JOBS, LINES = range(11, 19), 32
+# A line of each directory, which tells what came of a job in the job's own span.
+FORMS = {
+    "text": r"\S+  INFO request\{job=(?P<job>\d+)\}: service: (?P<what>\w+) job=(?P=job)\n",
+    "json": r'\{"timestamp".*"message":"(?P<what>\w+)","job":(?P<job>\d+)\}.*"span":\{"job":(?P=job),"name":"request"\}.*\}\n',
+}
 # A file may have so many bytes where a scene limits it.
 MOST = 700
 
@@ -30,33 +35,51 @@ def started(program, folder, most=None):
 
 
 def ended(running):
-    """Waits for the service. Returns its status, what it told on standard error, and the numbers of its last three lines."""
+    """Waits for the service. Returns its status, what it told on standard error, and the numbers of its last three lines: how many lines stand as
+    text and as JSON, and how many are lost."""
     out, err = running.communicate(timeout=rt.LIMIT)
     numbers = [int(it) for it in re.findall(r"\d+", "".join(out.splitlines(keepends=True)[1:]))]
     return running.returncode, err, numbers
 
 
-def torn(folder):
-    """Returns the files whose last line isn't whole, and those with a line that isn't one of the service's."""
-    whole = r'(\{"timestamp".*\}|\S+  INFO request\{job=\d+\}: service: \w+ job=\d+)\n'
-    return [name for name, text in files(folder).items() if not re.fullmatch(f"({whole})*", text)]
+def lines(folder):
+    """Returns how many lines stand in each of the two directories."""
+    return [sum(text.count("\n") for text in files(f"{folder}/{name}").values()) for name in FORMS]
+
+
+def told_of(folder, name):
+    """Returns the jobs, each with what was told of it, that stand in a directory."""
+    text = "".join(files(f"{folder}/{name}").values())
+    return sorted((int(it["job"]), it["what"]) for it in re.finditer(FORMS[name], text))
+
+
+def torn(folder, is_full=False):
+    """Returns the files that have anything but whole lines of the service. Of a full file the last line may lack its rest."""
+    read = {name: text[: text.rfind("\n") + 1] if is_full else text for name, text in files(folder).items()}
+    return [name for name, text in read.items() if not re.fullmatch(f"({FORMS[name[:4]]})*", text)]
 
 
 def all_lines_stand_in_both_directories(program, folder):
+    """Each job is told of twice in each."""
     came = ended(started(program, folder))
-    lines = [text.count("\n") for text in files(folder).values()]
-    return first_of(compared(came, (0, "", [16, 16, 0, 0]), "it ended so"), compared(sum(lines), LINES, "lines"), compared(torn(folder), [], "torn"))
+    wanted = [(job, what) for job in JOBS for what in ("served", "taken")]
+    return first_of(
+        compared(came, (0, "", [16, 16, 0]), "it ended so"),
+        *[compared(told_of(folder, name), wanted, f"told in {name}") for name in FORMS],
+        compared(torn(folder), [], "torn"),
+    )
 
 
 def a_full_file_is_told_and_counted(program, folder):
     """A limit on a file's size stands for a full device. The line that meets it loses its rest; what is lost is counted, and no thread waits for ever."""
     status, err, numbers = ended(started(program, folder, most=MOST))
-    text, json, dropped, lost = (numbers + [0] * 4)[:4]
-    least = lost > 0 and text < 16 and json < 16
+    *told, lost = numbers or [0]
     return first_of(
         compared((status, err), (1, "lines are missing\n"), "it ended so"),
-        compared((least, text + json + dropped + lost), (True, LINES), f"numbers {numbers}"),
-        compared(max(map(len, files(folder).values())), MOST, "bytes of the longest file"),
+        compared((told, sum(numbers)), (lines(folder), LINES), f"it told {numbers}"),
+        compared(lost > 0 and max(told, default=16) < 16, True, f"it told {numbers}, so that both files are full"),
+        compared({len(text) for text in files(folder).values()}, {MOST}, "bytes of a file"),
+        compared(torn(folder, is_full=True), [], "torn"),
     )
 
 
