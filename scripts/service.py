@@ -16,7 +16,7 @@ from kit import rt
 from real_files import compared, files, first_of, limited
 
 PROGRAM = "examples_service"
-# How many lines the service makes for both files: two of each job.
+# The jobs, and how many lines they make for both files: two each.
 JOBS, LINES = range(11, 19), 32
 # A line of each directory, which tells what came of a job in the job's own span.
 FORMS = {
