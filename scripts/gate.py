@@ -36,6 +36,7 @@ import ledger  # noqa: E402
 import promises  # noqa: E402
 import quick  # noqa: E402
 import real_files  # noqa: E402
+import service  # noqa: E402
 from kit import Crate, rt, rtlib  # noqa: E402
 
 LEDGER = "docs/edits.ledger"
@@ -43,8 +44,10 @@ LEDGER = "docs/edits.ledger"
 SECONDS = f"{os.path.dirname(os.path.realpath(__file__))}/seconds.json"
 # What runs a crate's tests, in the crate's folder. Some sweep over hundreds of runs.
 TESTS = [f"{os.path.dirname(os.path.realpath(__file__))}/unproved.py", "--test", "--seconds", "300"]
+# Programs that are played in scenes with real directories.
+SCENES = {cases.PROGRAM: real_files, service.PROGRAM: service}
 # What READMEs show parts of: each of these is proved or run.
-EXAMPLES = ["crates/examples/src/**/*.rt", "crates/uses/src/**/*.rt"]
+EXAMPLES = ["crates/examples*/src/**/*.rt", "crates/uses/src/**/*.rt"]
 # What a line takes where nothing was measured, and a program's proof beside its lines: its types name every part below.
 A_LINE, A_PROGRAM = 0.045, 400
 
@@ -185,11 +188,12 @@ class Gate:
             if it.name == cases.PROGRAM:
                 call = lambda it=it: cases.tried(cases.built(it), cases.sorted_out()[0])
                 found[it.name, "cases"] = lanes.Task([(it.name, "program")], 20, call)
-                call = lambda it=it: real_files.tried(cases.built(it))
-                found[it.name, "real files"] = lanes.Task([(it.name, "program")], 20, call)
                 if hostile.sample_of(it):
                     call = lambda it=it: hostile.tried(cases.built(it), hostile.sample_of(it))
                     found[it.name, "hostile input"] = lanes.Task([(it.name, "program")], 60, call)
+            if it.name in SCENES:
+                call = lambda it=it: SCENES[it.name].tried(cases.built(it))
+                found[it.name, "real files"] = lanes.Task([(it.name, "program")], 20, call)
             if it.has_tests():
                 call = tests_proved if self.how.tests == "prove" else tests_run
                 found[it.name, "tests"] = lanes.Task(after, 50, lambda it=it, call=call: call(it))

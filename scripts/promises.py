@@ -25,7 +25,7 @@ MEMBERS = {
     "The programs": ["span_trace", "span_trace_bench"],
 }
 # Crates without a table: their functions are callers.
-APART = ["examples", "uses"]
+APART = ["examples", "examples_service", "uses"]
 # A function of the source: the type or trait that it stands in, its name, its documentation, and its clauses, each with the comment above it.
 Function = collections.namedtuple("Function", "owner name doc clauses")
 Clause = collections.namedtuple("Clause", "name comment")
