@@ -8,7 +8,6 @@ pub mod filter;
 pub mod hub;
 pub mod lanes;
 pub mod layer;
-pub mod pool;
 pub mod program;
 pub mod queue;
 pub mod rolling;

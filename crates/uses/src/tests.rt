@@ -8,7 +8,6 @@ mod clocked;
 mod json;
 mod lanes;
 mod live_lanes;
-mod pool;
 mod service;
 mod skipped;
 mod two_stacks;

@@ -1,12 +1,11 @@
 //! Eight lanes that share a trace, whose one sink hands its lines to a worker's thread.
 ghost use Rattle.std.specs.Prelude.{◌≡◌};
 
-use super::pool::{Files, file_of, live};
 use event_formatter_text::Route;
 use span_tracing::{
-    AnySink, Closed, EventCall, FieldValue, FileStack, LineSettings, MemoryFolder, Moment,
-    NonBlocking, NonBlockingBuilder, Open, OutputKey, OutputSpec, OwnedValue, Parent, Reply, Seat,
-    Shared, SinkSpec, Site, Step, Timer, Trace, fits, open_trace,
+    AnySink, Builder, Closed, EventCall, FieldValue, FileStack, FixedClock, LineSettings,
+    MemoryFolder, Moment, NonBlocking, NonBlockingBuilder, Open, OutputKey, OutputSpec, OwnedValue,
+    Parent, Reply, Rotation, Seat, Shared, SinkSpec, Site, Step, Timer, Trace, fits, open_trace,
 };
 use std::alloc::{AllocError, AllocGlobal, Global};
 use std::marker::Brand;
@@ -15,6 +14,7 @@ use std::sync::Wait;
 use std::sync::ledger::{Blank, Ledger};
 use std::test::Fail;
 use std::thread::Threads;
+use tracing_appender::{Clocked, ClockedAppender, WorkerGuard};
 use tracing_core::{Level, LevelFilter};
 
 const MONDAY: Moment = Moment {
@@ -27,6 +27,33 @@ const LANES: usize = 8;
 const EVENTS: u64 = 100;
 
 type LiveTrace<R> = Trace<FileStack<LevelFilter, MemoryFolder, NonBlocking<R>>>;
+
+/// What a worker writes to.
+type Files = ClockedAppender<MemoryFolder, FixedClock>;
+
+/// A queue as the builder says, and the worker that writes its lines to a file in memory.
+fn live<R: AllocGlobal + Threads + Wait + Copy + Send + Drop + 'static>(
+    rt: &R,
+    builder: NonBlockingBuilder<'_>,
+) -> Result<(NonBlocking<R>, WorkerGuard<Files>), Fail> {
+    let alloc = rt.alloc();
+    let files = Builder::new(alloc)
+        .rotation(Rotation::NEVER)
+        .filename_prefix("app");
+    let opened = files.build(alloc, MemoryFolder::new(alloc), MONDAY);
+    let appender = opened.ok().ok_or("a file")?;
+    let started = builder.finish(*rt, alloc, appender.clocked(FixedClock::new(MONDAY)));
+    Ok(started.ok().ok_or("a worker")?)
+}
+
+/// What a worker wrote to its file.
+fn file_of(alloc: Global, files: Files) -> Result<String, Fail> {
+    let folder = files.into_appender().into_folder();
+    let files = folder.files()?;
+    let file = files.first().ok_or("a file")?;
+    let text = str::from_utf8(file.bytes).ok().ok_or("a text")?;
+    Ok(String::from_str(alloc, text)?)
+}
 
 /// A trace of eight lanes over this queue, and a callsite of events that tell their lane and a number.
 fn trace_over<R: Wait + Drop>(
