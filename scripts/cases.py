@@ -4,7 +4,11 @@
 usage: scripts/cases.py PROGRAM [CASE..]     runs a built program on all cases, or on these
 
 A case NAME is a file NAME.in, which the program reads, and a file NAME.out, which it has to print. Where they aren't nothing, 0 and the one word
-`replay`, NAME.err has what it tells as errors, NAME.status its status, and NAME.args its arguments, a word on each line."""
+`replay`, NAME.err has what it tells as errors, NAME.status its status, and NAME.args its arguments, a word on each line.
+
+Where lanes run in threads, which of them comes first differs from run to run. Then NAME.any_order has a text on each line: of a file that is printed,
+the lines with one of these texts have to come in the order of NAME.out, and those with different texts in any order."""
+import json
 import os
 import shutil
 import subprocess
@@ -15,7 +19,7 @@ from kit import rt
 
 # The program that the cases are run on.
 PROGRAM = "span_trace"
-ENDINGS = {".in", ".out", ".err", ".status", ".args"}
+ENDINGS = {".in", ".out", ".err", ".status", ".args", ".any_order"}
 
 
 def sorted_out():
@@ -49,11 +53,30 @@ def difference(program, name):
     return difference_of(ran, name)
 
 
+def parted(output, texts):
+    """Returns an output in which the lines of each file stand by which of these texts they have."""
+    place = lambda line: next((at for at, it in enumerate(texts) if it in line), len(texts))
+    lines = [json.loads(it) for it in output.splitlines()]
+    for it in lines:
+        if isinstance(it, dict) and "text" in it:
+            it["text"] = "".join(sorted(it["text"].splitlines(True), key=place))
+    return json.dumps(lines).encode()
+
+
+def output_of(output, name):
+    """Returns a case's output, as it is compared."""
+    texts = part(name, ".any_order").decode().splitlines()
+    try:
+        return parted(output, texts) if texts else output
+    except ValueError:
+        return output
+
+
 def difference_of(ran, name):
     """Returns how a run on a case's input differs from the case's files, or an empty text."""
     pairs = {
         "status": (b"%d" % ran.returncode, part(name, ".status", b"0").strip()),
-        "output": (ran.stdout, part(name, ".out")),
+        "output": (output_of(ran.stdout, name), output_of(part(name, ".out"), name)),
         "errors": (ran.stderr, part(name, ".err")),
     }
     return "; ".join(f"its {it} is {got.decode(errors='replace')!r}, and not {wanted.decode(errors='replace')!r}" for it, (got, wanted) in pairs.items() if got != wanted)

@@ -5,6 +5,7 @@ usage: scripts/hostile.py PROGRAM [SWEEP..]     runs a built program in all swee
 
 A sweep is a function here that gets the program and its sample input. It answers what the first run that goes wrong does, or an empty text."""
 import concurrent.futures
+import contextlib
 import glob
 import json
 import os
@@ -25,11 +26,11 @@ ROOM, ROOM_A_BYTE = 64 << 20, 8
 TOGETHER = 2
 
 
-def ended(program, given, **how):
+def ended(program, given, command="replay", **how):
     """Runs the program on an input."""
     how = {"stdout": subprocess.PIPE, "stderr": subprocess.PIPE, "cwd": "/", "env": {"LANG": "C.UTF-8"}, "timeout": rt.LIMIT, **how}
     how = {"input": given, **how} if "stdin" not in how else how
-    return subprocess.run([program, "replay"], **how)
+    return subprocess.run([program, command], **how)
 
 
 def wrong_of(ran):
@@ -115,6 +116,31 @@ def memory_stays_within_the_bound(program, _sample):
     return ""
 
 
+def lanes_of(count, limit, lossy, sinks=1):
+    """Returns an input of so many lanes with twenty events each, whose lines go to sinks with a queue for so many."""
+    sink = b'{"folder":{"memory":"A"},"rotation":"never","prefix":"a","queue":{"limit":%d,"lossy":%s}}' % (limit, lossy)
+    lines = [
+        b'{"do":"stack","moment":[0,0],"outputs":[{"key":0,"filter":"info","format":"full","route":0,"sinks":[%s]}]}' % b",".join([sink] * sinks),
+        b'{"do":"callsite","id":1,"kind":"event","name":"e","target":"app","level":"INFO","fields":["n"]}',
+        *[b'{"do":"lane","thread":%d}' % it for it in range(count)],
+        b'{"do":"set_global_default","handle":0}',
+        *[b'{"do":"event","lane":%d,"moment":[0,0],"callsite":1,"values":[["n",%d]]}' % (it % count, it // count) for it in range(20 * count)],
+    ]
+    return b"\n".join(lines)
+
+
+def threads_end_by_themselves(program, sample):
+    """More lanes than processors, queues with room for one line, many sinks, and inputs that end early: each run ends with a status and the reason."""
+    inputs = [lanes_of(100, 1, b"false"), lanes_of(100, 1, b"true"), lanes_of(2, 9, b"false", 40), lanes_of(500, 128_000, b"true")]
+    inputs += [sample[:at] for at in range(0, len(sample), 60)]
+    for at, given in enumerate(inputs):
+        ran = ended(program, given, "threads")
+        wrong = "" if ran.returncode == NO_MEMORY and ran.stderr.endswith(b"no thread\n") else wrong_of(ran)
+        if wrong:
+            return f"input {at} in threads: {wrong}"
+    return ""
+
+
 def has_terminals():
     """Returns whether the machine gives terminals, and says so where it doesn't."""
     try:
@@ -181,10 +207,21 @@ __attribute__((destructor)) static void tell(void) {
 """
 
 
-def run_failing(program, allocator, given, number):
+@contextlib.contextmanager
+def failing_allocator():
+    """Makes the allocator that fails, and gives its file."""
+    with tempfile.TemporaryDirectory(prefix="memory-") as room:
+        source, allocator = f"{room}/failing.c", f"{room}/failing.so"
+        with open(source, "w", encoding="utf-8") as it:
+            it.write(FAILING_ALLOCATOR)
+        subprocess.run([f"{rt.KIT}/toolchain/bin/clang", "-O1", "-shared", "-fPIC", "-nostdlib", "-o", allocator, source], check=True)
+        yield allocator
+
+
+def run_failing(program, allocator, given, number, command="replay"):
     """Runs the program where the request for memory with this number fails (none, for 0), and returns how it ended and how many there were."""
     ours, its = os.pipe()
-    ran = ended(program, given, pass_fds=[its], env={"LD_PRELOAD": allocator, "FAILING": f"{number}", "TELLING": f"{its}"})
+    ran = ended(program, given, command, pass_fds=[its], env={"LD_PRELOAD": allocator, "FAILING": f"{number}", "TELLING": f"{its}"})
     os.close(its)
     with os.fdopen(ours) as it:
         return ran, int(it.read() or "0")
@@ -238,13 +275,10 @@ def texts_of(files):
 
 
 def each_request_for_memory_fails(program, sample):
-    """One request for memory after another fails, in runs of the sample and of all cases in memory that are read and opened."""
-    inputs = [sample, *[it for it in map(bytes_of, sorted(glob.glob("cases/*.in"))) if b'"disk"' not in it]]
-    with tempfile.TemporaryDirectory(prefix="memory-") as room:
-        source, allocator = f"{room}/failing.c", f"{room}/failing.so"
-        with open(source, "w", encoding="utf-8") as it:
-            it.write(FAILING_ALLOCATOR)
-        subprocess.run([f"{rt.KIT}/toolchain/bin/clang", "-O1", "-shared", "-fPIC", "-nostdlib", "-o", allocator, source], check=True)
+    """One request for memory after another fails, in runs of the sample and of all replayed cases in memory that are read and opened."""
+    replayed = [it for it in sorted(glob.glob("cases/*.in")) if not os.path.isfile(it[:-3] + ".args")]
+    inputs = [sample, *[it for it in map(bytes_of, replayed) if b'"disk"' not in it]]
+    with failing_allocator() as allocator:
         for at, given in enumerate(inputs):
             whole, count = run_failing(program, allocator, given, 0)
             if whole.returncode not in (DONE, REFUSED):
@@ -258,6 +292,19 @@ def each_request_for_memory_fails(program, sample):
     return ""
 
 
+def threads_end_without_memory(program, _sample):
+    """One request for memory after another fails, of the program or of one of its threads. No run waits for ever, and none tells what isn't so."""
+    with failing_allocator() as allocator:
+        for lossy in (b"true", b"false"):
+            given = lanes_of(3, 2, lossy)
+            count = run_failing(program, allocator, given, 0, "threads")[1]
+            for number in range(1, count + 1):
+                ran = run_failing(program, allocator, given, number, "threads")[0]
+                if ran.returncode not in (DONE, REFUSED, NO_MEMORY):
+                    return f"request {number} for memory in threads: it ended with status {ran.returncode}, and told {ran.stderr[:200]!r}"
+    return ""
+
+
 def bytes_of(file):
     with open(file, "rb") as it:
         return it.read()
@@ -268,7 +315,7 @@ def sample_of(crate):
     return bytes_of(f"{crate.folder}/stdin") if os.path.isfile(f"{crate.folder}/stdin") else b""
 
 
-SWEEPS = [the_input_ends_after_each_byte, each_bit_of_the_input_is_turned, lines_that_no_reader_takes, memory_stays_within_the_bound, reads_and_writes_that_fail, each_request_for_memory_fails]
+SWEEPS = [the_input_ends_after_each_byte, each_bit_of_the_input_is_turned, lines_that_no_reader_takes, memory_stays_within_the_bound, threads_end_by_themselves, reads_and_writes_that_fail, each_request_for_memory_fails, threads_end_without_memory]
 
 
 def tried(built, sample, sweeps=SWEEPS):

@@ -14,11 +14,19 @@ pub(crate) enum Fault {
     Unread(LineFault),
     /// The setup call of the line was refused.
     Refused(Refusal),
+    /// No thread could be made for a sink of the line.
+    NoThread,
 }
 
 impl From<LineFault> for Fault {
     fn from(fault: LineFault) -> Fault {
         Fault::Unread(fault)
+    }
+}
+
+impl From<Refusal> for Fault {
+    fn from(refusal: Refusal) -> Fault {
+        Fault::Refused(refusal)
     }
 }
 
@@ -42,6 +50,7 @@ impl Fault {
         match self {
             Fault::Refused(Refusal::FolderRefused) => 3,
             Fault::Refused(Refusal::OutOfMemory) | Fault::Unread(LineFault::OutOfMemory) => 4,
+            Fault::NoThread => 4,
             Fault::Refused(_) | Fault::Unread(_) => 2,
         }
     }
@@ -50,7 +59,7 @@ impl Fault {
 /// Why the program ends before its steps have run.
 #[derive(Clone, Copy, Debug, PartialEq, Eq)]
 pub(crate) enum Stop {
-    /// The arguments are not the one word `replay`.
+    /// The arguments are not the one word `replay` or `threads`.
     Usage,
     /// The line of this number, from 1, is at fault.
     Line { number: u64, fault: Fault },
@@ -88,6 +97,7 @@ impl Stop {
                     let refused = refusal.number();
                     writeln!(errors, "span-trace: line {number}: refused {refused}")
                 }
+                Fault::NoThread => writeln!(errors, "span-trace: line {number}: no thread"),
             },
             Stop::OutOfMemory => Ok(()),
         };

@@ -11,4 +11,4 @@ pub use decode::{
     RecordLine, Setup, SinkLine, SpanEvent, StackLine, StepLine, SwapLine, TimeLine, decode_line,
 };
 pub use fault::LineFault;
-pub use print::{PrintFault, write_files, write_replies};
+pub use print::{PrintFault, write_files, write_journal, write_replies};

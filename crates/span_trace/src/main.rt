@@ -1,15 +1,23 @@
-//! Replays calls of events and spans that stand as JSON lines on standard input, and prints the replies and the files.
+//! Replays calls of events and spans that stand as JSON lines on standard input, or runs them in threads, and prints the replies and the
+//! files.
 #![tactic(auto)]
 
+mod answer;
+mod command;
 mod fault;
+mod lanes;
 mod lines;
 mod output;
 mod program;
 mod read;
 mod run;
 mod script;
+mod script_trace;
 mod setup;
+mod sites;
 mod stack;
+mod threads;
+mod workers;
 
 pub use program::main_with;
 use std::alloc::AllocError;
@@ -40,6 +48,7 @@ fn main(rt: HostRuntime) -> ExitCode {
         return ExitCode::from(4);
     };
     let status = main_with(
+        &rt,
         &rt,
         arguments.as_slice(),
         &mut rt.stdin(),

@@ -1,137 +1,140 @@
 //! The steps of a script, run on a trace.
+ghost use Rattle.std.specs.Prelude.{IfOk};
 
 use crate::lines::{CallsiteLine, NamedValue, RecordLine, StepLine, SwapLine};
-use crate::stack::LeveledStack;
-use span_tracing::{FieldValue, Folder, RecordCall, Refusal, Reply, SpanName, Step, Trace};
-use span_tracing_skeleton::{HasOutputs, HasRegistry, HasSinks};
+use crate::script_trace::ScriptTrace;
+use crate::setup::Stage;
+use crate::sites::Sites;
+use span_tracing::{FieldValue, RecordCall, Reply, Step};
 use std::alloc::{AllocError, Global};
-use tracing_core::{LevelFilter, Subscriber};
+use tracing_core::LevelFilter;
 
-/// The replies so far, and which callsite each span is of.
-#[derive(Debug, Drop)]
-struct Replies {
+/// What was set up beside a trace, and what came of the steps so far.
+#[derive(Drop)]
+struct Player {
+    alloc: Global,
+    callsites: Vec<CallsiteLine>,
+    shelf: Vec<LevelFilter>,
+    /// Steps that are still to be run.
+    waiting: Vec<Step>,
     replies: Vec<Reply>,
-    /// By stack the callsites of the spans that were made. A stack gives ids in order from 1, so that of its
-    /// span N stands at place N - 1.
-    sites: Vec<Vec<u64>>,
+    /// Which callsite each span is of.
+    sites: Sites,
 }
 
-impl Replies {
-    /// No reply yet, over so many stacks.
-    fn new(alloc: Global, stacks: usize) -> Result<Replies, AllocError> {
-        let mut told = Replies {
-            replies: Vec::new(alloc),
-            sites: Vec::new(alloc),
-        };
-        for _ in 0..stacks {
-            told.sites.push(Vec::new(alloc))?;
-        }
-        Ok(told)
-    }
-
-    /// Runs the steps, which are then done.
-    fn run<D: Folder>(
-        &mut self,
-        trace: &mut Trace<LeveledStack<D>>,
-        steps: &mut Vec<Step>,
-    ) -> Result<(), AllocError> {
-        let replies = trace.run(steps.as_slice())?;
-        for (step, reply) in steps.iter().zip(replies.iter()) {
-            if let (Step::NewSpan(span), Reply::Span(Some(name))) = (step, reply)
-                && let Some(sites) = self.sites.get_mut(name.stack)
-            {
-                sites.push(span.callsite.0)?;
-            }
-        }
+impl Player {
+    /// Runs the steps that wait. A trace stays ready.
+    fn run<T: ScriptTrace>(&mut self, trace: &mut T) -> Result<(), AllocError>
+        requires { T.ready trace.old }
+        ensures { T.ready trace.new }
+    {
+        let replies = trace.take_steps(self.waiting.as_slice())?;
+        self.sites
+            .note_all(self.waiting.as_slice(), replies.as_slice())?;
         self.replies.extend_from_slice(replies.as_slice())?;
-        steps.clear();
+        self.waiting.clear();
         Ok(())
     }
 
-    /// The callsite of a span that was made.
-    fn site_of(&self, span: Option<SpanName>) -> Option<u64> {
-        let name = span?;
-        let place = name.id.get().checked_sub(1)? as usize;
-        self.sites.get(name.stack)?.get(place).copied()
+    /// Lets the filter of an output and one of the shelf change places.
+    fn swap<T: ScriptTrace>(&mut self, trace: &mut T, swap: SwapLine) -> Reply
+        requires { T.ready trace.old }
+        ensures { T.ready trace.new }
+    {
+        match self.shelf.get_mut(swap.shelf) {
+            Some(filter) => trace.swap(swap.output, filter),
+            None => Reply::Refused(trace.swap_refusal(swap.output)),
+        }
     }
-}
 
-/// Runs the steps in order. Before a record those so far are run, since their replies tell the callsite of its span, and so before a swap,
-/// which is no step of a run.
-pub(crate) fn run_steps<D: Folder>(
-    alloc: Global,
-    trace: &mut Trace<LeveledStack<D>>,
-    callsites: &[CallsiteLine],
-    shelf: &mut [LevelFilter],
-    lines: Vec<StepLine>,
-) -> Result<Vec<Reply>, AllocError> {
-    let mut told = Replies::new(alloc, trace.stack_count())?;
-    let mut steps = Vec::new(alloc);
-    for line in lines {
+    /// Takes the step of a line. Before a record those that wait are run, since their replies tell the callsite of its span, and so before a
+    /// swap, which is no step of a run.
+    fn take<T: ScriptTrace>(&mut self, trace: &mut T, line: StepLine) -> Result<(), AllocError>
+        requires { T.ready trace.old }
+        ensures { T.ready trace.new }
+    {
         match line {
-            StepLine::Whole(step) => steps.push(step)?,
+            StepLine::Whole(step) => Ok(self.waiting.push(step)?),
             StepLine::Record(record) => {
-                told.run(trace, &mut steps)?;
-                let callsite = callsite_of(callsites, told.site_of(record.span));
-                steps.push(Step::Record(record_call(alloc, callsite, record)?))?;
+                self.run(trace)?;
+                let site = self.sites.site_of(record.span);
+                let step = record_step(self.alloc, self.callsites.as_slice(), site, record)?;
+                Ok(self.waiting.push(step)?)
             }
             StepLine::Swap(swap) => {
-                told.run(trace, &mut steps)?;
-                told.replies.push(swapped(trace, shelf, swap))?;
+                self.run(trace)?;
+                let reply = self.swap(trace, swap);
+                Ok(self.replies.push(reply)?)
             }
         }
     }
-    told.run(trace, &mut steps)?;
-    Ok(told.replies)
 }
 
-/// Lets the filter of an output and one of the shelf change places.
-fn swapped<D: Folder>(
-    trace: &mut Trace<LeveledStack<D>>,
-    shelf: &mut [LevelFilter],
-    swap: SwapLine,
-) -> Reply {
-    match shelf.get_mut(swap.shelf) {
-        Some(filter) => trace.swap_filter(swap.output, filter),
-        None => Reply::Refused(swap_refusal(trace, swap.output)),
-    }
+/// A trace whose steps were run, with its callsites and the replies.
+#[derive(Drop)]
+pub(crate) struct Played<T> {
+    pub(crate) trace: T,
+    pub(crate) callsites: Vec<CallsiteLine>,
+    pub(crate) replies: Vec<Reply>,
 }
 
-/// Why a filter that the shelf lacks isn't swapped with that of an output.
-fn swap_refusal<T: Subscriber + HasRegistry + HasOutputs + HasSinks>(
-    trace: &Trace<T>,
-    output: usize,
-) -> Refusal {
-    if trace.is_busy() {
-        return Refusal::Busy;
-    }
-    let refusal = trace.output_refusal(output);
-    refusal.unwrap_or(Refusal::UnknownShelf)
-}
-
-/// The first callsite of that id.
-fn callsite_of(callsites: &[CallsiteLine], id: Option<u64>) -> Option<&CallsiteLine> {
-    let id = id?;
-    callsites.iter().find(|line| line.id == id)
-}
-
-fn record_call(
+/// Runs steps in order. The trace is ready for more.
+///
+/// # Errors
+///
+/// Out of memory.
+pub(crate) fn play<T: ScriptTrace>(
     alloc: Global,
-    callsite: Option<&CallsiteLine>,
+    stage: Stage<T>,
+    lines: Vec<StepLine>,
+) -> Result<Played<T>, AllocError>
+    ensures { IfOk result (λ played. T.ready played.trace) }
+{
+    let (mut trace, callsites, shelf) = stage.into_parts();
+    let mut player = Player {
+        alloc,
+        callsites,
+        shelf,
+        waiting: Vec::new(alloc),
+        replies: Vec::new(alloc),
+        sites: Sites::new(alloc, trace.stacks())?,
+    };
+    for line in lines {
+        player.take(&mut trace, line)?;
+    }
+    player.run(&mut trace)?;
+    Ok(Played {
+        trace,
+        callsites: player.callsites,
+        replies: player.replies,
+    })
+}
+
+/// The record of a line, on a span of the callsite with that id.
+pub(crate) fn record_step(
+    alloc: Global,
+    callsites: &[CallsiteLine],
+    site: Option<u64>,
     record: RecordLine,
-) -> Result<RecordCall, AllocError> {
+) -> Result<Step, AllocError> {
     let RecordLine {
         lane,
         moment,
         span,
         values,
     } = record;
-    Ok(RecordCall {
+    Ok(Step::Record(RecordCall {
         lane,
         moment,
         span,
-        values: values_at(alloc, callsite, values)?,
-    })
+        values: values_at(alloc, callsite_of(callsites, site), values)?,
+    }))
+}
+
+/// The first callsite of that id.
+fn callsite_of(callsites: &[CallsiteLine], id: Option<u64>) -> Option<&CallsiteLine> {
+    let id = id?;
+    callsites.iter().find(|line| line.id == id)
 }
 
 /// The values of the callsite's fields. One whose field the callsite lacks is passed over, and so are all

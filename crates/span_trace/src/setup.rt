@@ -1,103 +1,113 @@
 //! The setup calls of a script, made on a new trace.
 
-use crate::fault::{Fault, Stop};
-use crate::lines::{CallsiteLine, LaneLine, Setup, StackLine};
-use crate::stack::OpensStacks;
-use span_tracing::{Refusal, Trace};
-use span_tracing_skeleton::{HasOutputs, HasRegistry, HasSinks};
+use crate::fault::Fault;
+use crate::lines::{CallsiteLine, Setup, StackLine};
+use crate::script_trace::ScriptTrace;
+use span_tracing::Refusal;
 use std::alloc::{AllocError, Global};
-use tracing_core::{FieldSet, Identifier, LevelFilter, Metadata, Subscriber};
+use std::marker::Model;
+use tracing_core::{FieldSet, Identifier, LevelFilter, Metadata};
 
-/// A trace that is set up, its callsites' lines, and for each sink the name under which its files are shown, where they are in
-/// memory: of the first stack's sinks in order, then of the second's, and so on.
-#[derive(Drop)]
-pub(crate) struct Stage<T: Subscriber> {
-    pub(crate) trace: Trace<T>,
+/// A trace that is set up, its callsites' lines, and the shelf. Contracts see the trace, which is ready for its next step.
+pub(crate) struct Stage<T: ScriptTrace> {
+    pub(crate) trace: T,
     pub(crate) callsites: Vec<CallsiteLine>,
-    pub(crate) folders: Vec<Option<String>>,
     /// Filters that steps may let change places with those of outputs.
     pub(crate) shelf: Vec<LevelFilter>,
 }
 
-impl<T: Subscriber + HasRegistry + HasOutputs + HasSinks> Stage<T> {
-    /// Makes the calls in order.
+impl<T: ScriptTrace> Drop for Stage<T> {
+    fn drop(self) {
+        let Stage {
+            trace: _trace,
+            callsites: _callsites,
+            shelf: _shelf,
+        } = self;
+    }
+}
+
+impl<T: ScriptTrace> Model for Stage<T> {
+    ghost Value = { T };
+
+    ghost view = { λ stage. stage.trace };
+
+    ghost invariant = { λ stage. T.ready stage.trace };
+}
+
+impl<T: ScriptTrace> Stage<T> {
+    /// A new trace, no callsite and an empty shelf.
+    pub(crate) fn new(alloc: Global) -> Stage<T> {
+        Stage {
+            trace: T::empty(alloc),
+            callsites: Vec::new(alloc),
+            shelf: Vec::new(alloc),
+        }
+    }
+
+    /// Makes a setup call. Where it is one for a stack its line is handed back: whoever opens the stack's sinks adds it.
     ///
     /// # Errors
     ///
-    /// The first refused call, by its line.
-    pub(crate) fn set_up<O: OpensStacks<T>>(
-        alloc: Global,
-        opener: &O,
-        setup: Vec<Setup>,
-    ) -> Result<Stage<T>, Stop> {
-        let mut stage = Stage {
-            trace: Trace::new(alloc),
-            callsites: Vec::new(alloc),
-            folders: Vec::new(alloc),
-            shelf: Vec::new(alloc),
-        };
-        let mut number: u64 = 0;
-        for call in setup {
-            number = number.saturating_add(1);
-            if let Err(fault) = stage.make(alloc, opener, call) {
-                return Err(Stop::Line { number, fault });
-            }
-        }
-        Ok(stage)
-    }
-
-    fn make<O: OpensStacks<T>>(
-        &mut self,
-        alloc: Global,
-        opener: &O,
-        call: Setup,
-    ) -> Result<(), Fault> {
+    /// Why the call is refused.
+    pub(crate) fn make(&mut self, alloc: Global, call: Setup) -> Result<Option<StackLine>, Fault> {
         match call {
-            Setup::Stack(line) => self.add_stack(opener, line),
-            Setup::Callsite(line) => self.add_callsite(alloc, line),
-            Setup::Lane(line) => self.add_lane(line).map_err(Fault::Refused),
-            Setup::Shelf(filter) => Ok(self.shelf.push(filter)?),
+            Setup::Stack(line) => return Ok(Some(line)),
+            Setup::Callsite(line) => {
+                register(&mut self.trace, alloc, &line)?;
+                self.callsites.push(line)?;
+            }
+            Setup::Lane(line) => self.trace.add_lane(line.name, line.thread)?,
+            Setup::Shelf(filter) => self.shelf.push(filter)?,
         }
+        Ok(None)
     }
 
-    fn add_stack<O: OpensStacks<T>>(&mut self, opener: &O, line: StackLine) -> Result<(), Fault> {
-        let stack = opener.open(line, &mut self.folders)?;
-        match self.trace.add_stack(stack) {
-            Ok(_) => Ok(()),
-            Err(_) => Err(Fault::Refused(Refusal::OutOfMemory)),
-        }
+    /// Adds a stack.
+    ///
+    /// # Errors
+    ///
+    /// Out of memory.
+    pub(crate) fn add(&mut self, stack: T::Stack) -> Result<(), Fault>
+        requires { T.fits stack }
+    {
+        Ok(self.trace.add(stack)?)
     }
 
-    fn add_callsite(&mut self, alloc: Global, line: CallsiteLine) -> Result<(), Fault> {
-        self.register(alloc, &line).map_err(Fault::Refused)?;
-        Ok(self.callsites.push(line)?)
+    /// The trace, the callsites' lines and the shelf.
+    pub(crate) fn into_parts(self) -> (T, Vec<CallsiteLine>, Vec<LevelFilter>)
+        ensures { T.ready result.0 }
+    {
+        let Stage {
+            trace,
+            callsites,
+            shelf,
+        } = self;
+        (trace, callsites, shelf)
     }
+}
 
-    fn register(&mut self, alloc: Global, line: &CallsiteLine) -> Result<(), Refusal> {
-        let identifier = Identifier(line.id);
-        let names = names_of(alloc, line.fields.as_slice()).or(Err(Refusal::OutOfMemory))?;
-        let metadata = Metadata::new(
-            line.name.as_str(),
-            line.target.as_str(),
-            line.level,
-            text_of(&line.file),
-            line.line,
-            None,
-            FieldSet::new(names.as_slice(), identifier),
-            line.kind,
-        );
-        match self.trace.register(identifier, &metadata) {
-            Ok(_) => Ok(()),
-            Err(refusal) => Err(refusal),
-        }
-    }
-
-    fn add_lane(&mut self, line: LaneLine) -> Result<(), Refusal> {
-        match self.trace.thread(line.name, line.thread) {
-            Ok(_) => Ok(()),
-            Err(_) => Err(Refusal::OutOfMemory),
-        }
-    }
+/// Registers the callsite of a line.
+fn register<T: ScriptTrace>(
+    trace: &mut T,
+    alloc: Global,
+    line: &CallsiteLine,
+) -> Result<(), Refusal>
+    requires { T.ready trace.old }
+    ensures { T.ready trace.new }
+{
+    let identifier = Identifier(line.id);
+    let names = names_of(alloc, line.fields.as_slice()).or(Err(Refusal::OutOfMemory))?;
+    let metadata = Metadata::new(
+        line.name.as_str(),
+        line.target.as_str(),
+        line.level,
+        text_of(&line.file),
+        line.line,
+        None,
+        FieldSet::new(names.as_slice(), identifier),
+        line.kind,
+    );
+    trace.add_callsite(identifier, &metadata)
 }
 
 fn text_of(text: &Option<String>) -> Option<&str> {

@@ -3,6 +3,7 @@
 mod readable;
 mod refusals;
 mod streams;
+mod threads;
 mod unreadable;
 
 use crate::program::main_with;
@@ -10,7 +11,9 @@ use std::alloc::{AllocError, Global};
 use std::io::Read;
 use std::process::Abort;
 use std::rt::Files;
+use std::sync::Wait;
 use std::test::Fail;
+use std::thread::Threads;
 
 /// A stack with one output into a folder A.
 pub(crate) const STACK: &str =
@@ -56,16 +59,17 @@ pub(crate) struct Want<'a> {
 }
 
 /// The program on these words and this input.
-pub(crate) fn run_on<X: Files + AllocGlobal + Clone + Drop, R: Read>(
-    rt: &X,
-    words: &[&str],
-    input: &mut R,
-) -> Result<Run, Fail> {
+pub(crate) fn run_on<
+    X: AllocGlobal + Threads + Wait + Copy + Send + Sync + Drop + 'static,
+    F: Files<File: Send> + AllocGlobal + Clone + Send + Drop + 'static,
+    R: Read,
+>(rt: &X, files: &F, words: &[&str], input: &mut R) -> Result<Run, Fail> {
     let alloc = rt.alloc();
     let words = words_of(alloc, words)?;
     let mut output = Vec::with_capacity(alloc, ROOM)?;
     let mut errors = Vec::with_capacity(alloc, ROOM)?;
-    let status = main_with(rt, words.as_slice(), input, &mut output, &mut errors);
+    let words = words.as_slice();
+    let status = main_with(rt, files, words, input, &mut output, &mut errors);
     Ok(Run {
         status,
         output,
@@ -74,11 +78,10 @@ pub(crate) fn run_on<X: Files + AllocGlobal + Clone + Drop, R: Read>(
 }
 
 /// The program on the word `replay`.
-pub(crate) fn replayed<X: Files + AllocGlobal + Clone + Drop>(
-    rt: &X,
-    mut input: &[u8],
-) -> Result<Run, Fail> {
-    run_on(rt, &["replay"], &mut input)
+pub(crate) fn replayed<
+    X: AllocGlobal + Files<File: Send> + Threads + Wait + Copy + Send + Sync + Drop + 'static,
+>(rt: &X, mut input: &[u8]) -> Result<Run, Fail> {
+    run_on(rt, rt, &["replay"], &mut input)
 }
 
 /// Words as the program is given them.
@@ -135,12 +138,18 @@ fn wanted_memory(run: &Run, want: &Want<'_>) -> bool {
 }
 
 /// Runs the program and compares. An answer that lacks memory is a failure of that name.
-pub(crate) fn expect_run<X: Abort + Files + AllocGlobal + Clone + Drop>(
-    rt: &X,
-    input: &[u8],
-    want: Want<'_>,
-    case: &str,
-) -> Result<(), Fail> {
+pub(crate) fn expect_run<
+    X: Abort
+        + AllocGlobal
+        + Files<File: Send>
+        + Threads
+        + Wait
+        + Copy
+        + Send
+        + Sync
+        + Drop
+        + 'static,
+>(rt: &X, input: &[u8], want: Want<'_>, case: &str) -> Result<(), Fail> {
     let run = replayed(rt, input)?;
     if wanted_memory(&run, &want) {
         return Err(Fail::new("out of memory"));
@@ -160,12 +169,18 @@ pub(crate) fn expect_run<X: Abort + Files + AllocGlobal + Clone + Drop>(
 }
 
 /// Runs the program on an input that it refuses with this line alone.
-pub(crate) fn expect_stop<X: Abort + Files + AllocGlobal + Clone + Drop>(
-    rt: &X,
-    input: &[u8],
-    errors: &str,
-    case: &str,
-) -> Result<(), Fail> {
+pub(crate) fn expect_stop<
+    X: Abort
+        + AllocGlobal
+        + Files<File: Send>
+        + Threads
+        + Wait
+        + Copy
+        + Send
+        + Sync
+        + Drop
+        + 'static,
+>(rt: &X, input: &[u8], errors: &str, case: &str) -> Result<(), Fail> {
     let want = Want {
         status: 2,
         output: "",

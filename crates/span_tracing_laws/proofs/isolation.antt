@@ -10,5 +10,4 @@ pub mod OwnSteps
 pub mod OwnRuns
 pub mod Unreplied
 pub mod IsolatedRuns
-pub mod HandedQueues
 pub mod FaultyFolders

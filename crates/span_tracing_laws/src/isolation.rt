@@ -11,7 +11,7 @@ use span_tracing_outputs::{
 };
 use span_tracing_skeleton::stays_counted;
 use tracing_appender::LiveQueue;
-use tracing_appender_queue::{drops_are_exact, steps_have_one_end, work_goes_in_turn};
+use tracing_appender_queue::{drops_are_exact, steps_have_one_end};
 use tracing_appender_rolling::{Folder, files_go_by_tries, lines_have_one_end};
 
 /// What becomes of an output in a run is settled by what comes to it, whatever the other outputs' filters and formats are, and whatever
@@ -48,9 +48,7 @@ pub fn isolated<N: FormatFields + Drop, E: FormatEvent, F: Filter, D: Folder, Q:
 /// Folders may refuse any calls and cut any writes short. The lines that came to a direct sink since its opening go, in order, by a list of
 /// tries: the opening's, and one for each line whose period is later than that of every try before. Each piece that the folder's writes
 /// took stands in the file of the last try that had succeeded by then, and nothing else stands in a file behind the bytes that it had at
-/// the opening, whether it stands or was removed. Of a queued sink these are the lines that workers' steps took from the queue, each at its
-/// step's moment, and the file is flushed behind a step's last line, if that was written whole. No line may have found no memory, and
-/// each moment has to be in range.
+/// the opening, whether it stands or was removed. No line may have found no memory, and each moment has to be in range.
 ///
 /// Two runs from one skeleton are answered alike where they are alike, but for what queues answer: the same steps and the same calls on
 /// queues, with the same answers of filters, of which the same found no memory, and the same had to wait for a held line. Then the same
@@ -73,6 +71,5 @@ pub fn faults_stay_apart<
     kept_lines_go_in_turn();
     files_go_by_tries();
     drops_are_exact();
-    work_goes_in_turn();
     isolated::<N, E, F, D, Q>();
 }

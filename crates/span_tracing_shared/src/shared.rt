@@ -54,12 +54,11 @@ pub struct SharedNotOpened<T> {
     pub trace: T,
 }
 
-/// The book that was shared and the seats, which do not have the whole of its journal. The book itself comes back, since what stands
-/// behind a lock can't be told by a contract. `Shared::from` shares it again.
+/// The shared book and the seats, which do not have the whole journal.
 #[derive(Drop)]
 pub struct Torn<L: Ledger, T: CarriesOut> {
-    /// The book.
-    pub book: Book<L, T>,
+    /// The shared book.
+    pub shared: Shared<L, T>,
     /// The seats.
     pub seats: Vec<Seat<L>>,
 }
@@ -151,7 +150,9 @@ impl<L: Ledger, T: CarriesOut> Shared<L, T> {
         ensures { IfErr result (λ e. (e.blank ≡ blank) × (e.trace ≡ trace)) }
     {
         match Book::new(alloc, blank, parts, trace) {
-            Ok(book) => Ok(Shared::from(book)),
+            Ok(book) => Ok(Shared {
+                book: Mutex::new(book),
+            }),
             Err(refused) => Err(SharedNotOpened {
                 blank: refused.blank,
                 trace: refused.trace,
@@ -242,21 +243,17 @@ impl<L: Ledger, T: CarriesOut> Shared<L, T> {
     pub fn close(self, seats: Vec<Seat<L>>) -> Result<Closed<T>, Torn<L, T>>
         ensures ok { IfOk result (λ c. Closes seats.items (plain_journal c.journal.items)
             × Replays (T.skeleton c.trace) (T.copied c.start) (plain_journal c.journal.items)) }
-        ensures err { IfErr result (λ e. (e.seats ≡ seats) × ¬ Closes e.seats.items e.book.journal) }
+        ensures err { IfErr result (λ e. e.seats ≡ seats) }
     {
         let Shared { book } = self;
         match book.into_inner().close(seats) {
             Ok(closed) => Ok(closed),
-            Err((book, seats)) => Err(Torn { book, seats }),
-        }
-    }
-}
-
-impl<L: Ledger, T: CarriesOut> From<Book<L, T>> for Shared<L, T> {
-    /// Shares a book, with the journal that it has.
-    fn from(book: Book<L, T>) -> Shared<L, T> {
-        Shared {
-            book: Mutex::new(book),
+            Err((book, seats)) => Err(Torn {
+                shared: Shared {
+                    book: Mutex::new(book),
+                },
+                seats,
+            }),
         }
     }
 }

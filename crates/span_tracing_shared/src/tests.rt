@@ -269,7 +269,7 @@ fn torn<L: Ledger, R: Abort + AllocGlobal + Wait>(rt: &R, blank: Blank) -> Resul
     let Err(torn) = shared.close(seats) else {
         return Err("closed".into());
     };
-    let shared = Shared::from(torn.book);
+    let shared = torn.shared;
     let mut seats = torn.seats;
     assert_eq!(rt; seats.len(), 1);
     // a lane that was used has two seats
@@ -278,7 +278,7 @@ fn torn<L: Ledger, R: Abort + AllocGlobal + Wait>(rt: &R, blank: Blank) -> Resul
     let Err(torn) = shared.close(seats) else {
         return Err("closed".into());
     };
-    let shared = Shared::from(torn.book);
+    let shared = torn.shared;
     let mut seats = torn.seats;
     assert_eq!(rt; seats.len(), 3);
     // and without the one that wasn't used nothing is missing

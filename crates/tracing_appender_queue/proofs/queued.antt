@@ -4,4 +4,3 @@ pub mod ExactCounts
 pub mod QueuedWork
 pub mod LinesLeft
 pub mod QueueCalls
-pub mod WorkTurns

@@ -10,7 +10,7 @@ mod worker;
 pub use laws::queue_is_its_lists;
 pub use queued::{
     AdmitError, Fate, QueuedSink, Settlement, Waiting, drops_are_exact, queue_goes_by_calls,
-    settles_compose, work_goes_in_turn, work_may_be_cut, work_may_change_places,
+    settles_compose, work_may_be_cut, work_may_change_places,
 };
 pub use state::{MarkError, Offered, QueueState, Settled, Taken, ZeroLimit};
 pub use worker::{

@@ -9,8 +9,7 @@ mod waiting;
 
 pub use fate::{AdmitError, Fate, Settlement};
 pub use laws::{
-    drops_are_exact, queue_goes_by_calls, settles_compose, work_goes_in_turn, work_may_be_cut,
-    work_may_change_places,
+    drops_are_exact, queue_goes_by_calls, settles_compose, work_may_be_cut, work_may_change_places,
 };
 pub use queued_sink::QueuedSink;
 pub use waiting::Waiting;

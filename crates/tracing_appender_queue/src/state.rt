@@ -16,9 +16,6 @@ use thiserror::Error;
 /// mark counts for the limit.
 ///
 /// A lossy queue drops a line that it has no room for, and counts it; a waiting one hands the line back.
-///
-/// It is an invariant of the type that offers, takes and the mark led to the queue from a new one with its limit. So what
-/// [`queue_is_its_lists`](crate::queue_is_its_lists) says after any calls holds of each queue, behind a lock too.
 #[derive(Drop)]
 pub struct QueueState {
     lines: VecDeque<Vec<u8>>,
@@ -192,7 +189,6 @@ impl QueueState {
 
     // What becomes of a line that isn't taken in: a lossy queue counts it.
     fn turn_away(&mut self) -> Refusal
-        requires { accepts self.old ≡ false }
         ensures { TurnsAway self.old result self.new }
     {
         if self.lossy {

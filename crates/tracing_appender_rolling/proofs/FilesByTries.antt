@@ -1,6 +1,6 @@
 -- Lines whose files go by a list of tries.
 use Rattle.std.proofs.Common.{◌≡◌, ◌≢◌, ◌<◌, ◌≤◌, ◌+◌, ◌==◌, ℕ, ℤ, ◌<ℤ◌, zero, suc, Bool, true, false, not, ◌&&◌, int_le, cond, List, []}
-use Rattle.std.proofs.Common.{◌∷◌, ◌++◌, length, take, refl, ap, subst, sym, ◌∙◌, arith, append_assoc, Option, Some, Result, Ok, Err, inl, inr}
+use Rattle.std.proofs.Common.{◌∷◌, ◌++◌, length, take, refl, ap, subst, sym, ◌∙◌, arith, append_assoc, Option, Some, Result, Ok, Err}
 use Rattle.std.proofs.lemmas.Bool.{eq-eqb, eqb-true, false≢true, false_from_ne_true}
 use Rattle.std.proofs.lemmas.List.{append-nil, take_all}
 use Rattle.jiff_core.proofs.SignedLemmas.{signed_arith}
@@ -10,7 +10,7 @@ use Rattle.tracing_appender_rolling.specs.declared.folders.fault.FileNumber.{Fil
 use Rattle.tracing_appender_rolling.specs.declared.folders.fault.FolderError.{FolderError}
 use Rattle.tracing_appender_rolling.specs.declared.folders.fault.FolderError.TheVariants.{Fault, OutOfMemory}
 use Rattle.tracing_core_moments.specs.Moments.{period_at, is_due}
-use Rattle.tracing_appender_rolling.specs.folders.Contents.{Contents, StoredFile, appended, flushed, opened}
+use Rattle.tracing_appender_rolling.specs.folders.Contents.{Contents, StoredFile, appended, opened}
 use Rattle.tracing_appender_rolling.specs.Names.{FileNames}
 use Rattle.tracing_appender_rolling.specs.Faults.{no_faults}
 use Rattle.tracing_appender_rolling.specs.RetentionRemovals.{pruned}
@@ -20,9 +20,8 @@ use Rattle.tracing_appender_rolling.specs.Writes.{Left, WritesAll}
 use Rattle.tracing_appender_rolling.specs.LineHandover.{HandedOver, HandsTo, is_starved}
 use Rattle.tracing_appender_rolling.specs.Sinks.{Handed}
 use Rattle.tracing_appender_rolling.specs.FilesByTries.{Try, is_later, or_before, current_of, file_of, left_by, TriedIf, Piece, TakenTo}
-use Rattle.tracing_appender_rolling.specs.FilesByTries.{GoesBy, bytes_of, pieces_of, HandedInTurn, FilesGoByTries, IsAtRest, Rests, with_flush}
+use Rattle.tracing_appender_rolling.specs.FilesByTries.{GoesBy, bytes_of, pieces_of, HandedInTurn, FilesGoByTries}
 use Rattle.tracing_appender_rolling.proofs.PeriodFacts.{later_due}
-use Rattle.tracing_appender_rolling.proofs.FaultlessFolder.{flush_still}
 use Rattle.tracing_appender_rolling.proofs.NoFileLost.{Within, closed_on, try_on, look_on}
 
 tried_within : (t : Tried) (file : FileNumber) → Within t → t.0 ≡ Ok file → file.index < length t.1.files
@@ -243,36 +242,6 @@ module _ (names : FileNames) (t : Try) (ts : List Try) (h next : Held) (handed :
   line_tries (Err (Fault fault)) fed over = over_line (Err (Fault fault)) over
   line_tries (Err OutOfMemory) fed over = cc
 
--- behind a line the file may be flushed, which changes no file
-record Rested (names : FileNames) (t : Try) (ts : List Try) (h rested : Held) : Type 0 where
-  pub stands : Stands names t ts rested
-  pub files : rested.contents.files ≡ h.contents.files
-  pub rests : (file : FileNumber) → current_of (t ∷ ts) ≡ Some file → Rests file h.contents rested.contents
-
-rested_after : (names : FileNames) (t : Try) (ts : List Try) (h rested : Held) → Stands names t ts h → IsAtRest h rested →
-    Rested names t ts h rested
-rested_after names t ts h rested st (inl same) = record {
-  stands = subst (Stands names t ts) (sym same) st;
-  files = ap (λ (k : Held). k.contents.files) same;
-  rests = λ file is. inl (ap (λ (k : Held). k.contents) same);
-}
-rested_after names t ts h rested st (inr same) =
-    let still = (flush_still h.contents h.current).files in
-    let flush : Stands names t ts (with_flush h) = record {
-      until = st.until;
-      rises = st.rises;
-      file = st.file;
-      within = subst (λ (fs : List StoredFile). h.current.index < length fs) (sym still) st.within;
-    } in
-    record {
-      stands = subst (Stands names t ts) (sym same) flush;
-      files = ap (λ (k : Held). k.contents.files) same ∙ still;
-      rests = λ file is.
-          let its : Some h.current ≡ Some file = sym st.file ∙ is in
-          let one : h.current ≡ file = cc in
-          inr (ap (λ (k : Held). k.contents) same ∙ ap (λ (f : FileNumber). (flushed h.contents f).1) one);
-    }
-
 -- lines
 record Gone (names : FileNames) (t : Try) (ts : List Try) (h last : Held) (lines : List Handed) : Type 0 where
   pub tries : List Try
@@ -290,10 +259,9 @@ gone_by names t ts h last [] st same = record {
   current = st.file ∙ ap (λ (x : Held). Some x.current) (sym same);
   bytes = λ n. ap (λ (x : Held). bytes_of x.contents.files n) same ∙ sym (append-nil (bytes_of h.contents.files n));
 }
-gone_by names t ts h last (l ∷ ls) st (next, answer, fed, over, rested, rests, more) =
+gone_by names t ts h last (l ∷ ls) st (next, answer, fed, over, more) =
     let line = line_tries names t ts h next l st answer fed over in
-    let behind = rested_after names line.look.latest line.look.before next rested line.stands rests in
-    let rest = gone_by names line.look.latest line.look.before rested last ls behind.stands more in
+    let rest = gone_by names line.look.latest line.look.before next last ls line.stands more in
     let taken = line.taken in
     let files = left_files taken.to.left in
     let due = is_later names.kind (t ∷ ts) l.moment in
@@ -306,11 +274,9 @@ gone_by names t ts h last (l ∷ ls) st (next, answer, fed, over, rested, rests,
         seen.contents,
         seen.current,
         next.contents,
-        rested.contents,
         line.look.tries,
         line.look.stands.file,
         taken.to,
-        behind.rests seen.current line.look.stands.file,
         rest.goes,
       );
       current = rest.current;
@@ -319,7 +285,7 @@ gone_by names t ts h last (l ∷ ls) st (next, answer, fed, over, rested, rests,
           let place : taken.piece.file.index ≡ seen.current.index = ap (λ (f : FileNumber). f.index) file in
           with_piece seen.contents.files last.contents.files taken.piece rest.pieces n (omega (arith, place, line.look.stands.within))
           (rest.bytes n ∙ ap (λ (fs : List StoredFile). bytes_of fs n ++ pieces_of rest.pieces n)
-          (behind.files ∙ files ∙ ap (λ i. appended seen.contents.files i taken.piece.bytes) (sym place)))
+          (files ∙ ap (λ i. appended seen.contents.files i taken.piece.bytes) (sym place)))
           ∙ ap (λ (xs : List ℕ). xs ++ pieces_of (taken.piece ∷ rest.pieces) n) ((look_on due names l.moment h).bytes n);
     }
 

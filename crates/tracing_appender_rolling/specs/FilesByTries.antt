@@ -1,13 +1,13 @@
 -- A sink's files by its list of tries, whatever the folder refuses: each file has the pieces of lines that were written while it was the
 -- current one.
 use Rattle.std.specs.Prelude.{◌≡◌, ℕ, zero, suc, Bool, true, false, not, ◌&&◌, ◌==◌, int_le, if◌then◌else◌, List, [], ◌∷◌, ◌++◌, length}
-use Rattle.std.specs.Prelude.{◌⊎◌, take, Option, Some, None, Result, Ok, Err}
+use Rattle.std.specs.Prelude.{take, Option, Some, None, Result, Ok, Err}
 use Rattle.tracing_core_moments.specs.declared.period.PeriodKind.{PeriodKind}
 use Rattle.tracing_core_moments.specs.declared.moment.Moment.{Moment}
 use Rattle.tracing_appender_rolling.specs.declared.folders.fault.FileNumber.{FileNumber}
 use Rattle.tracing_appender_rolling.specs.declared.folders.fault.FolderError.{FolderError}
 use Rattle.tracing_core_moments.specs.Moments.{period_at}
-use Rattle.tracing_appender_rolling.specs.folders.Contents.{Contents, StoredFile, appended, closed, flushed}
+use Rattle.tracing_appender_rolling.specs.folders.Contents.{Contents, StoredFile, appended, closed}
 use Rattle.tracing_appender_rolling.specs.declared.faults.Faults.{Faults}
 use Rattle.tracing_appender_rolling.specs.Names.{FileNames}
 use Rattle.tracing_appender_rolling.specs.RetentionRemovals.{pruned}
@@ -72,19 +72,14 @@ pub record TakenTo (file : FileNumber) (line : List ℕ) (c : Contents) (piece :
   pub first_bytes : piece ≡ record { file = file; bytes = take count line }
   pub left : Left c (appended c.files file.index piece.bytes) c.has_dirs calls (Some d)
 
--- the file was flushed, as a worker does behind its lines, or that was refused; or nothing was done
-abbrev pub Rests : FileNumber → Contents → Contents → Type 0
-Rests file c d = (d ≡ c) ⊎ (d ≡ (flushed c file).1)
-
--- lines one after another, each at its moment: the tries that they add, and a piece of each. Behind a line its file may be flushed.
+-- lines one after another, each at its moment: the tries that they add, and a piece of each
 abbrev pub GoesBy : FileNames → List Try → Contents → List Handed → List Try → List Piece → Contents → Type 0
 GoesBy names tries c [] last [] d = (last ≡ tries) × (d ≡ c)
 GoesBy names tries c [] last (p ∷ ps) d = ⊥
 GoesBy names tries c (h ∷ hs) last [] d = ⊥
 GoesBy names tries c (h ∷ hs) last (p ∷ ps) d =
-    (seen : List Try) × (x : Contents) × (file : FileNumber) × (e rested : Contents) × TriedIf (is_later names.kind tries h.moment) names
-    h.moment tries c seen x × (current_of seen ≡ Some file) × TakenTo file h.line x p e × Rests file e rested ×
-    GoesBy names seen rested hs last ps d
+    (seen : List Try) × (x : Contents) × (file : FileNumber) × (e : Contents) × TriedIf (is_later names.kind tries h.moment) names h.moment
+    tries c seen x × (current_of seen ≡ Some file) × TakenTo file h.line x p e × GoesBy names seen e hs last ps d
 
 -- the bytes of the file with this number, standing or removed; a file that isn't made yet has none
 abbrev pub bytes_of : List StoredFile → ℕ → List ℕ
@@ -97,20 +92,12 @@ abbrev pub pieces_of : List Piece → ℕ → List ℕ
 pieces_of [] n = []
 pieces_of (p ∷ ps) n = if p.file.index == n then p.bytes ++ pieces_of ps n else pieces_of ps n
 
--- the current file was flushed, or that was refused
-abbrev pub with_flush : Held → Held
-with_flush h = record h { contents = (flushed h.contents h.current).1 }
-
-abbrev pub IsAtRest : Held → Held → Type 0
-IsAtRest h rested = (rested ≡ h) ⊎ (rested ≡ with_flush h)
-
--- each line was handed over at its moment, and no memory was refused; behind a line the current file may have been flushed
+-- each line was handed over at its moment, and no memory was refused
 abbrev pub HandedInTurn : FileNames → Held → List Handed → Held → Type 0
 HandedInTurn names a [] b = b ≡ a
 HandedInTurn names a (h ∷ hs) b =
     (next : Held) × (answer : Result (Unit {0}) FolderError) × (is_starved answer ≡ false) ×
-    HandsTo names h.moment a h.line answer next.boundary next.current next.faults (Some next.contents) × (rested : Held) ×
-    IsAtRest next rested × HandedInTurn names rested hs b
+    HandsTo names h.moment a h.line answer next.boundary next.current next.faults (Some next.contents) × HandedInTurn names next hs b
 
 -- What lines leave that an opened sink is handed is by a list of tries, the first of which is the building's: the current file is that of
 -- the last try that succeeded,

@@ -56,6 +56,16 @@ pub fn write_replies<W: Write>(
     Ok(())
 }
 
+/// Writes the line that tells how many steps lanes took.
+pub fn write_journal<W: Write>(
+    alloc: Global,
+    steps: usize,
+    output: &mut W,
+) -> Result<(), PrintFault> {
+    let number = steps as u64;
+    write_line(alloc, &json!(in alloc; {"journal": number})?, output)
+}
+
 /// Writes a line for each file of a folder of that name, in the byte order of the files' names.
 pub fn write_files<W: Write>(
     alloc: Global,

@@ -9,7 +9,9 @@ use std::io;
 use std::io::{ErrorKind, Read, Write};
 use std::process::Abort;
 use std::rt::Files;
+use std::sync::Wait;
 use std::test::Fail;
+use std::thread::Threads;
 
 /// Gives some bytes, a few at each read, and then refuses.
 #[derive(Drop)]
@@ -51,9 +53,9 @@ impl Read for Spaces {
 
 /// Takes some writes, and then refuses.
 #[derive(Drop)]
-struct BrokenWriter {
-    left: u64,
-    bytes: Vec<u8>,
+pub(super) struct BrokenWriter {
+    pub(super) left: u64,
+    pub(super) bytes: Vec<u8>,
 }
 
 impl Write for BrokenWriter {
@@ -73,9 +75,11 @@ impl Write for BrokenWriter {
 #[test]
 fn usage(rt: HostRuntime) -> Result<(), Fail> {
     let alloc = rt.alloc();
-    let lists: [&[&str]; 6] = [
+    let lists: [&[&str]; 8] = [
         &[],
-        &["threads"],
+        &["Threads"],
+        &["threads", "replay"],
+        &["threads", ""],
         &["replay", "replay"],
         &["Replay"],
         &[""],
@@ -91,7 +95,7 @@ fn usage(rt: HostRuntime) -> Result<(), Fail> {
             status,
             output,
             errors,
-        } = run_on(&rt, list, &mut input)?;
+        } = run_on(&rt, &rt, list, &mut input)?;
         let told = b"span-trace: usage: span-trace replay|threads\n";
         assert_eq!(rt; (status, input.reads), (2, 0), "at {list:?}");
         assert_eq!(rt; errors.as_slice(), told.as_slice(), "at {list:?}");
@@ -100,13 +104,18 @@ fn usage(rt: HostRuntime) -> Result<(), Fail> {
     Ok(())
 }
 
-fn expect_broken<X: Abort + Files + AllocGlobal + Clone + Drop>(
-    rt: &X,
-    alloc: Global,
-    bytes: &[u8],
-    most: usize,
-    number: u64,
-) -> Result<(), Fail> {
+fn expect_broken<
+    X: Abort
+        + AllocGlobal
+        + Files<File: Send>
+        + Threads
+        + Wait
+        + Copy
+        + Send
+        + Sync
+        + Drop
+        + 'static,
+>(rt: &X, alloc: Global, bytes: &[u8], most: usize, number: u64) -> Result<(), Fail> {
     let mut input = BrokenReader {
         bytes,
         most,
@@ -116,7 +125,7 @@ fn expect_broken<X: Abort + Files + AllocGlobal + Clone + Drop>(
         status,
         output,
         errors,
-    } = run_on(rt, &["replay"], &mut input)?;
+    } = run_on(rt, rt, &["replay"], &mut input)?;
     if status == 4 {
         return Err(Fail::new("out of memory"));
     }
@@ -156,7 +165,7 @@ fn endless_input(rt: HostRuntime) -> Result<(), Fail> {
         status,
         output,
         errors,
-    } = run_on(&rt, &["replay"], &mut input)?;
+    } = run_on(&rt, &rt, &["replay"], &mut input)?;
     if status == 4 {
         return Err(Fail::new("out of memory"));
     }
@@ -180,6 +189,7 @@ fn broken_output(rt: HostRuntime) -> Result<(), Fail> {
         };
         let mut errors: Vec<u8> = Vec::new(alloc);
         let status = main_with(
+            &rt,
             &rt,
             words.as_slice(),
             &mut input.as_bytes(),
@@ -210,6 +220,7 @@ fn broken_errors(rt: HostRuntime) -> Result<(), Fail> {
         bytes: Vec::new(alloc),
     };
     let status = main_with(
+        &rt,
         &rt,
         words.as_slice(),
         &mut b"1.5".as_slice(),

@@ -6,7 +6,9 @@ use crate::tests::{
 use std::alloc::Global;
 use std::process::Abort;
 use std::rt::Files;
+use std::sync::Wait;
 use std::test::Fail;
+use std::thread::Threads;
 
 /// Whole lines.
 const LINES: [&str; 67] = [
@@ -242,12 +244,18 @@ const FLOATS: [&str; 9] = [
 ];
 
 /// Each edit of a line, which stands fifth and before a line that is worse.
-fn edited<X: Abort + Files + AllocGlobal + Clone + Drop>(
-    rt: &X,
-    alloc: Global,
-    line: &str,
-    edits: &[(&str, &str)],
-) -> Result<(), Fail> {
+fn edited<
+    X: Abort
+        + AllocGlobal
+        + Files<File: Send>
+        + Threads
+        + Wait
+        + Copy
+        + Send
+        + Sync
+        + Drop
+        + 'static,
+>(rt: &X, alloc: Global, line: &str, edits: &[(&str, &str)]) -> Result<(), Fail> {
     for (old, new) in edits {
         let changed = line.replace(alloc, *old, new)?;
         assert!(rt; changed.as_str() != line, "no change by {new}");
@@ -257,12 +265,18 @@ fn edited<X: Abort + Files + AllocGlobal + Clone + Drop>(
 }
 
 /// A line that stands fifth and before a line that is worse.
-fn fifth<X: Abort + Files + AllocGlobal + Clone + Drop>(
-    rt: &X,
-    alloc: Global,
-    line: &str,
-    fault: &str,
-) -> Result<(), Fail> {
+fn fifth<
+    X: Abort
+        + AllocGlobal
+        + Files<File: Send>
+        + Threads
+        + Wait
+        + Copy
+        + Send
+        + Sync
+        + Drop
+        + 'static,
+>(rt: &X, alloc: Global, line: &str, fault: &str) -> Result<(), Fail> {
     let input = joined(alloc, &[LANE, OUTER, HAPPENED, LANE, line, "1.5"])?;
     let errors = format!(in alloc; "span-trace: line 5: {fault}\n")?;
     expect_stop(rt, input.as_bytes(), errors.as_str(), line)

@@ -7,15 +7,13 @@ use Rattle.tracing_core_fields.specs.requests.PlainRequests.{PlainEvent}
 use Rattle.tracing_core_moments.specs.declared.at.At.{At}
 use Rattle.tracing_core_moments.specs.declared.moment.Moment.{Moment}
 use Rattle.tracing_appender_queue.specs.declared.queued.fate.Fate.{Fate}
-use Rattle.tracing_appender_rolling.specs.FilesByTries.{FilesGoByTries}
+use Rattle.tracing_appender_rolling.specs.FilesByTries.{FilesGoByTries, HandedInTurn}
 use Rattle.tracing_appender_rolling.specs.Looks.{Held}
 use Rattle.tracing_appender_rolling.specs.Names.{FileNames}
 use Rattle.tracing_appender_rolling.specs.Sinks.{Handed}
 use Rattle.tracing_appender_rolling.specs.declared.appender.RollingFileAppender.{RollingFileAppender}
 use Rattle.tracing_appender_rolling.specs.folders.Contents.{Contents}
-use Rattle.tracing_appender_queue.specs.declared.queued.queued_sink.QueuedSink.{QueuedSink}
 use Rattle.tracing_appender_queue.specs.queued.ExactCounts.{DropsAreExact}
-use Rattle.tracing_appender_queue.specs.queued.QueuedWork.{WorkGoesInTurn}
 use Rattle.span_registry_layers_layers.specs.declared.filter.Filter.{Ghosts as FilterGhosts}
 use Rattle.span_registry_layers_layers.specs.declared.layer.Layer.{Ghosts as LayerGhosts}
 use Rattle.event_formatter_text.specs.declared.format_fields.FormatFields.{Ghosts}
@@ -25,14 +23,14 @@ use Rattle.span_tracing_outputs.specs.OutputFolds.{Fates, Numbered}
 use Rattle.span_tracing_outputs.specs.OutputMachines.{PlainLine}
 use Rattle.span_tracing_outputs.specs.OutputNotices.{Notice, heards}
 use Rattle.span_tracing_outputs.specs.Turns.{Lines}
-use Rattle.span_tracing_outputs.specs.declared.sinks.any_sink.AnySink.TheVariants.{Direct, Queued}
+use Rattle.span_tracing_outputs.specs.declared.sinks.any_sink.AnySink.TheVariants.{Direct}
 use Rattle.span_tracing_outputs.specs.declared.has_sinks.SinkPlace.{SinkPlace}
 use Rattle.span_tracing_outputs.specs.declared.sinks.sink.RollingSink.{RollingSink}
 use Rattle.span_tracing_outputs.specs.sinks.Fates.{CountsAreExact, HandsAll, KeptLinesGoInTurn, RunsAreTold}
 use Rattle.span_tracing_outputs.specs.sinks.Routed.{Routed, sent_to}
 use Rattle.span_tracing_outputs.specs.sinks.Runs.{TakesRun, handed_in}
 use Rattle.span_tracing_outputs.specs.sinks.SinkCalls.{sink_place}
-use Rattle.span_tracing_outputs.specs.sinks.SinkTurns.{QueueMeetsAll, SinksMeetTheirs, came_in}
+use Rattle.span_tracing_outputs.specs.sinks.SinkTurns.{SinksMeetTheirs, came_in}
 use Rattle.span_tracing_outputs.specs.sinks.Takes.{TakesLine}
 use Rattle.span_tracing_skeleton.specs.Looking.{output_in}
 use Rattle.span_tracing_skeleton.specs.Machine.{after, reply_of}
@@ -44,11 +42,10 @@ use Rattle.span_tracing_skeleton.specs.declared.queue_call.SinkCall.{SinkCall}
 use Rattle.span_tracing_skeleton.specs.declared.setting.OutputPlace.{OutputPlace}
 use Rattle.span_tracing_steps.specs.States.{stack_in}
 use Rattle.span_tracing_laws.specs.isolation.FaultyFolders.{AllAlike, FaultsStayApart, OneSkeleton, OpenedAndHanded, PiecesStand}
-use Rattle.span_tracing_laws.specs.isolation.FaultyFolders.{WaitedAndHanded}
 use Rattle.span_tracing_laws.specs.isolation.FaultyFolders.{RepliesAlike, ReplyAlike, TurnsAlike}
 use Rattle.span_tracing_laws.specs.isolation.FaultyFolders.{sink_counts}
 use Rattle.span_tracing_laws.specs.isolation.OutputTurns.{filter_numbers}
-use Rattle.span_tracing_laws.specs.isolation.IsolatedOutputs.{DirectOf, Isolated, OneRun, QueuedOf, brought, turns_in}
+use Rattle.span_tracing_laws.specs.isolation.IsolatedOutputs.{DirectOf, Isolated, OneRun, brought, turns_in}
 use Rattle.span_tracing_laws.specs.isolation.OutputTurns.{OutputTurn, calls_at, calls_by, calls_if, changes_by, hears_by, hears_some}
 use Rattle.span_tracing_laws.specs.isolation.OutputTurns.{run_brings, turn_brings, unreplied}
 use Rattle.span_tracing_laws.specs.runs.Files.{sink_turns, stack_sinks}
@@ -59,11 +56,17 @@ use Rattle.span_tracing_laws.specs.runs.StepNotices.{Told, told_of, told_to}
 use Rattle.span_tracing_laws.specs.runs.StepSettings.{outs_with, setting_of}
 use Rattle.span_tracing_laws.specs.starved.StarvedCounts.{list_at}
 use Rattle.span_tracing_laws.proofs.isolation.Appenders.{all_kept}
-use Rattle.span_tracing_laws.proofs.isolation.HandedQueues.{all_hand, handed_then}
 use Rattle.span_tracing_laws.proofs.isolation.MetSinks.{met_its}
 use Rattle.span_tracing_laws.proofs.isolation.QueueAnswers.{queues_answer}
 use Rattle.span_tracing_laws.proofs.isolation.OutputNumbers.{numbers_left, numbers_with}
 use Rattle.span_tracing_laws.proofs.starved.ToldByNumbers.{IsByNumbers, told_by_numbers}
+
+-- lines that are handed over behind others
+handed_then : (names : FileNames) (a b c : Held) (xs ys : List Handed) → HandedInTurn names a xs b → HandedInTurn names b ys c →
+    HandedInTurn names a (xs ++ ys) c
+handed_then names a b c [] ys first later = subst (λ (k : Held). HandedInTurn names k ys c) first later
+handed_then names a b c (x ∷ xs) ys (next, answer, fed, over, rest) later =
+    (next, answer, fed, over, handed_then names next b c xs ys rest later)
 
 -- a call comes to the same output, whatever the queue answers
 calls_any : {S : Type 0} (sinks : List (Routed S)) (stack place : ℕ) (at : Option OutputPlace) (call : QueueCall) (reply answer : Reply) →
@@ -204,7 +207,7 @@ module _ {N E F D Q : Type 0} (contents : D → Option Contents) (failed : D →
     PlainEvent → Option (List ℕ)) (g : FilterGhosts F) (h : LayerGhosts (Lines N E))
     (settles : Q → List ℕ → Fate → Q → Type 0) (meet : SinksMeetTheirs contents failed settles)
     (told : RunsAreTold contents failed) (exact : CountsAreExact) (kept_go : KeptLinesGoInTurn) (tries : FilesGoByTries)
-    (drops : DropsAreExact) (go : WorkGoesInTurn) (alone : Isolated contents failed n line_of g h settles) where
+    (drops : DropsAreExact) (alone : Isolated contents failed n line_of g h settles) where
   abbrev Run : Type 0
   Run = OneRun contents failed n line_of g h settles
 
@@ -243,18 +246,6 @@ module _ {N E F D Q : Type 0} (contents : D → Option Contents) (failed : D →
         },
       )
 
-  worked_over : (r : Run) (number : ℕ) (old new : QueuedSink D) (names : FileNames) (m : Moment) (c : Contents) (opened : Held)
-      (earlier : List Handed) → QueuedOf contents failed n line_of g h settles r number old new →
-      OpenedAndHanded contents names m c opened earlier old.appender →
-      WaitedAndHanded contents names m c opened earlier (sink_turns n r.before r.plain (ts_in r) r.stack r.place number r.sinks.route) old new
-  worked_over r number old new names m c opened earlier its before =
-      let met = met_its contents failed n line_of g h settles r number (Queued old) (Queued new) its.sink in
-      let ts = sink_turns n r.before r.plain (ts_in r) r.stack r.place number r.sinks.route in
-      let (made, is, goes) = meet.queued ts old (Queued new) met.met in
-      let same : made ≡ new = cc in
-      all_hand contents failed drops go names m c opened ts old new (subst (QueueMeetsAll contents failed ts old) same goes)
-      its.none.stayed its.none.not_full earlier before
-
   pieces_stand : (names : FileNames) (m : Moment) (c : Contents) (opened : Held) (lines : List Handed) (a : RollingFileAppender D)
       (is : OpenedAndHanded contents names m c opened lines a) → PiecesStand names m opened is.now lines
   pieces_stand names m c opened lines a is =
@@ -281,7 +272,6 @@ module _ {N E F D Q : Type 0} (contents : D → Option Contents) (failed : D →
   pub faults_stay_apart : FaultsStayApart contents failed n line_of g h settles
   faults_stay_apart = record {
     handed = handed_over;
-    worked = worked_over;
     stand = pieces_stand;
     answers = queues_answer contents failed drops;
     replies = replies_same;

@@ -21,7 +21,6 @@ use Rattle.event_formatter_text.specs.declared.settings.Settings.{Settings}
 use Rattle.event_formatter.specs.formats.Contexts.{PlainContext}
 use Rattle.span_tracing_outputs.specs.OutputMachines.{PlainLine}
 use Rattle.span_tracing_outputs.specs.Turns.{Lines}
-use Rattle.span_tracing_outputs.specs.sinks.QueueFiles.{handed_all, waits_all}
 use Rattle.span_tracing_outputs.specs.sinks.Routed.{Routed, sent_to}
 use Rattle.span_tracing_outputs.specs.sinks.Runs.{handed_in}
 use Rattle.span_tracing_outputs.specs.sinks.SinkTurns.{Asked, Came, QueueMeetsAll, SinkTurn}
@@ -31,9 +30,9 @@ use Rattle.span_tracing_skeleton.specs.declared.call.Reply.TheVariants.{Refused}
 use Rattle.span_tracing_skeleton.specs.declared.queue_call.QueueCall.TheVariants.{Admit, Shutdown, Work}
 use Rattle.span_tracing_skeleton.specs.declared.refusal.Refusal.TheVariants.{OutOfMemory}
 use Rattle.span_tracing_steps.specs.States.{stack_in}
-use Rattle.span_tracing_laws.specs.isolation.IsolatedOutputs.{DirectOf, EndAlike, OneRun, QueuedOf, brought, turns_in}
+use Rattle.span_tracing_laws.specs.isolation.IsolatedOutputs.{DirectOf, EndAlike, OneRun, brought, turns_in}
 use Rattle.span_tracing_laws.specs.isolation.OutputTurns.{FindsMemory, filter_numbers, unreplied}
-use Rattle.span_tracing_laws.specs.runs.Files.{sink_turns, stack_sinks}
+use Rattle.span_tracing_laws.specs.runs.Files.{stack_sinks}
 use Rattle.span_tracing_laws.specs.runs.Runs.{Drove, Starved, StepWithMask, Waited, Went, lines_of, plain_run}
 
 -- A sink's appender that was opened at a moment over contents, with retention before, and was handed these lines since: none found no
@@ -45,12 +44,6 @@ pub record OpenedAndHanded {D : Type 0} (contents : D → Option Contents) (name
   pub now : Held
   pub handed : HandedInTurn names opened lines now
   pub holds : Holds contents a now
-
--- What waits is what these turns leave of what waited, and each line that workers' steps took was handed to the files behind those before.
-pub record WaitedAndHanded {D : Type 0} (contents : D → Option Contents) (names : FileNames) (m : Moment) (c : Contents) (opened : Held)
-    (earlier : List Handed) (ts : List SinkTurn) (old new : QueuedSink D) : Type 0 where
-  pub waiting : new.waiting ≡ waits_all ts old.waiting
-  pub handed : OpenedAndHanded contents names m c opened (earlier ++ handed_all ts old.waiting) new.appender
 
 -- The pieces that the folder's writes took of these lines. Each stands in the file of the last try that had succeeded by then, and nothing
 -- else stands in a file behind the bytes that it had at the opening, whether it stands or was removed. The first try is the opening's; a
@@ -138,12 +131,6 @@ module _ {N E F D Q : Type 0} (contents : D → Option Contents) (failed : D →
         OpenedAndHanded contents names m c opened earlier old.appender →
         (run : List (At × PlainLine)) × (slice_get (lines_of n r.plain (ts_in r) r.stack) r.place ≡ Some run) ×
         OpenedAndHanded contents names m c opened (earlier ++ handed_in (sent_to r.sinks.route number run)) new.appender
-    -- so does each line that workers' steps take from the queue of a queued one
-    pub worked : (r : Run) (number : ℕ) (old new : QueuedSink D) (names : FileNames) (m : Moment) (c : Contents) (opened : Held)
-        (earlier : List Handed) → QueuedOf contents failed n line_of g h settles r number old new →
-        OpenedAndHanded contents names m c opened earlier old.appender →
-        WaitedAndHanded contents names m c opened earlier
-        (sink_turns n r.before r.plain (ts_in r) r.stack r.place number r.sinks.route) old new
     pub stand : (names : FileNames) (m : Moment) (c : Contents) (opened : Held) (lines : List Handed) (a : RollingFileAppender D)
         (is : OpenedAndHanded contents names m c opened lines a) → PiecesStand names m opened is.now lines
     -- what a queue answers, and what waits in it, doesn't depend on its folder

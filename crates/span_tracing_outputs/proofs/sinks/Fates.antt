@@ -217,4 +217,4 @@ kept_in_turn names h last [] (f ∷ fs) kept hands = absurd hands
 kept_in_turn names h last (x ∷ xs) [] kept hands = absurd hands
 kept_in_turn names h last (x ∷ xs) (OutOfRange ∷ fs) kept hands = let no : true ≡ false = kept.0 in cc
 kept_in_turn names h last (x ∷ xs) (Answered r ∷ fs) kept (next, one, rest) =
-    (next, r, kept.0, one.1, next, inl refl, kept_in_turn names next last xs fs kept.1 rest)
+    (next, r, kept.0, one.1, kept_in_turn names next last xs fs kept.1 rest)

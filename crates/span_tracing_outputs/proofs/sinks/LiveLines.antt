@@ -3,7 +3,7 @@ use Rattle.std.proofs.Common.{◌≡◌, ◌∙◌, ℕ, Bool, List, [], ◌∷�
 use Rattle.tracing_appender.specs.background.Live.{SettlesEach}
 use Rattle.tracing_appender_queue.specs.declared.queued.fate.Fate.{Fate}
 use Rattle.tracing_appender_queue.specs.queued.LineFates.{is_lost, is_missed}
-use Rattle.span_tracing_outputs.specs.sinks.LiveSinks.{NoneHeld, TakesLive, TakesLives, counted_by}
+use Rattle.span_tracing_outputs.specs.sinks.LiveSinks.{TakesLive, TakesLives, counted_by}
 use Rattle.span_tracing_outputs.specs.declared.sinks.live.LiveSink.{LiveSink}
 
 -- the counts of some lines go on from those of the lines before
@@ -12,17 +12,12 @@ counted_on : (counts : Fate → Bool) (some more : List Fate) (count : ℕ) →
 counted_on counts [] more count = refl
 counted_on counts (fate ∷ some) more count = counted_on counts some more _
 
-none_held_on : (some more : List Fate) → NoneHeld some → NoneHeld more → NoneHeld (some ++ more)
-none_held_on [] more first rest = rest
-none_held_on (fate ∷ some) more first rest = (first.0, none_held_on some more first.1 rest)
-
 module _ {Q : Type 0} (settles : Q → List ℕ → Fate → Q → Type 0) where
   pub lives_first : (line : List ℕ) (lines : List (List ℕ)) (old mid new : LiveSink Q) → TakesLive settles old line mid →
       TakesLives settles lines mid new → TakesLives settles (line ∷ lines) old new
   lives_first line lines old mid new one run = record {
     fates = one.fate ∷ run.fates;
     settled = (mid.queue, one.settled, run.settled);
-    unheld = (one.unheld, run.unheld);
     missed = run.missed ∙ ap (λ count. counted_by is_missed run.fates count) one.missed;
     lost = run.lost ∙ ap (λ count. counted_by is_lost run.fates count) one.lost;
   }
@@ -40,7 +35,6 @@ module _ {Q : Type 0} (settles : Q → List ℕ → Fate → Q → Type 0) where
   lives_on some more old mid new first run = record {
     fates = first.fates ++ run.fates;
     settled = settled_on some more first.fates run.fates old.queue mid.queue new.queue first.settled run.settled;
-    unheld = none_held_on first.fates run.fates first.unheld run.unheld;
     missed = run.missed ∙ ap (λ count. counted_by is_missed run.fates count) first.missed ∙
         sym (counted_on is_missed first.fates run.fates old.missed);
     lost = run.lost ∙ ap (λ count. counted_by is_lost run.fates count) first.lost ∙

@@ -50,7 +50,7 @@ module _ {D Q : Type 0} (contents : D → Option Contents) (failed : D → ℕ) 
 
   live : (lines : List (At × PlainLine)) (old : LiveSink Q) (new : AnySink D Q) → TakesRun takes lines (Live old) new →
       (made : LiveSink Q) × (new ≡ Live made) × TakesLives settles (bytes_in lines) old made
-  live [] old new same = (old, same, record { fates = []; settled = refl; unheld = tt; missed = refl; lost = refl })
+  live [] old new same = (old, same, record { fates = []; settled = refl; missed = refl; lost = refl })
   live (x ∷ xs) old new (Direct mid, one, rest) = absurd one
   live (x ∷ xs) old new (Queued mid, one, rest) = absurd one
   live (x ∷ xs) old new (Live mid, one, rest) =

@@ -332,7 +332,7 @@ module _ {D Q : Type 0} (contents : D → Option Contents) (failed : D → ℕ) 
 
   live : (ts : List SinkTurn) (old : LiveSink Q) (new : AnySink D Q) → SinkMeetsAll contents failed settles ts (Live old) new →
       (made : LiveSink Q) × (new ≡ Live made) × TakesLives settles (bytes_in (came_in ts)) old made
-  live [] old new same = (old, same, record { fates = []; settled = refl; unheld = tt; missed = refl; lost = refl })
+  live [] old new same = (old, same, record { fates = []; settled = refl; missed = refl; lost = refl })
   live (Came lines ∷ ts) old new (mid, took, rest) =
       let first = (kinds_stay contents failed settles).live lines old mid took in
       let later = live ts first.0 new (subst (λ (s : AnySink D Q). SinkMeetsAll contents failed settles ts s new) first.1 rest) in (

@@ -69,10 +69,7 @@ pub struct NonBlockingBuilder<'n> {
 
 /// Room for 128,000 lines, lossy, and a thread that is named `tracing-appender`.
 impl Default for NonBlockingBuilder<'_> {
-    ghost use Rattle.std.specs.Prelude.{codes};
-
-    ghost is_default = { λ builder. (builder.limit ≡ 128000) × (builder.lossy ≡ true)
-        × (builder.thread_name.now ≡ codes "tracing-appender") };
+    ghost is_default = { λ builder. (builder.limit ≡ 128000) × (builder.lossy ≡ true) };
 
     fn default() -> Self {
         NonBlockingBuilder {

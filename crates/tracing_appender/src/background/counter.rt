@@ -1,7 +1,7 @@
 //! The count of dropped lines.
 
 use crate::background::channel::Channel;
-use std::alloc::{AllocError, Global};
+use std::alloc::Global;
 use std::sync::Arc;
 
 /// Tells how many lines a lossy queue dropped. It takes no lock, so it never waits.
@@ -15,16 +15,5 @@ impl ErrorCounter {
     /// queue drops none.
     pub fn dropped_lines(&self) -> usize {
         self.channel.dropped_lines()
-    }
-
-    /// Another one of the same queue.
-    ///
-    /// # Errors
-    ///
-    /// There are too many.
-    pub fn clone(&self) -> Result<ErrorCounter, AllocError> {
-        Ok(ErrorCounter {
-            channel: Arc::try_clone(&self.channel)?,
-        })
     }
 }

@@ -78,7 +78,7 @@ fn sent_lines<R: Wait + Copy + Drop>(
     ];
     let settlement = sender.settle(&lines);
     assert_eq!(rt; (settlement.lost, settlement.missed), (0, 0));
-    assert_eq!(rt; sender.error_counter()?.clone()?.dropped_lines(), 0);
+    assert_eq!(rt; sender.error_counter()?.dropped_lines(), 0);
     Ok(())
 }
 

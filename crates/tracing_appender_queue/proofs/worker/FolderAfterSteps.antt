@@ -20,8 +20,7 @@ use Rattle.tracing_appender_rolling.proofs.PeriodFacts.{own_not_due}
 use Rattle.tracing_appender_rolling.proofs.FaultlessFolder.{done_open, not_open, flush_still}
 use Rattle.tracing_appender_queue.specs.declared.worker.step.Written.{Written}
 use Rattle.tracing_appender_queue.specs.declared.worker.step.Written.TheVariants.{Whole, Failed, Missed}
-use Rattle.tracing_appender_queue.specs.worker.Steps.{is_whole, last_whole, LineTo, LinesTo, flushed_if, AllWhole}
-use Rattle.tracing_appender_rolling.specs.FilesByTries.{with_flush}
+use Rattle.tracing_appender_queue.specs.worker.Steps.{is_whole, last_whole, LineTo, LinesTo, with_flush, flushed_if, AllWhole}
 use Rattle.tracing_appender_queue.specs.worker.Steps.{FoldersMayBeCut}
 
 -- these stand for the same, whatever was flushed last: file, end of the period, count of faults, and the folder but for its coming calls

@@ -7,11 +7,11 @@ use Rattle.tracing_appender_queue.specs.declared.worker.step.Written.{Written}
 use Rattle.tracing_appender_queue.specs.declared.worker.step.Written.TheVariants.{Whole, Failed, Missed}
 use Rattle.tracing_appender_queue.specs.worker.Steps.{is_missed, answer_of, missed_in, LinesTo, StepsHaveOneEnd}
 
-pub first_fed : (b : Bool) (n : ℕ) → cond b (suc n) n ≡ 0 → (b ≡ false) × (n ≡ 0)
+first_fed : (b : Bool) (n : ℕ) → cond b (suc n) n ≡ 0 → (b ≡ false) × (n ≡ 0)
 first_fed true n e = cc
 first_fed false n e = (refl, e)
 
-pub starved_is : (fate : Written) → is_starved (answer_of fate) ≡ is_missed fate
+starved_is : (fate : Written) → is_starved (answer_of fate) ≡ is_missed fate
 starved_is Whole = refl
 starved_is (Failed fault) = refl
 starved_is Missed = refl

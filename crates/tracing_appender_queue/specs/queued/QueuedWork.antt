@@ -7,14 +7,13 @@ use Rattle.tracing_core_moments.specs.Moments.{is_moment}
 use Rattle.tracing_appender_rolling.specs.Names.{FileNames}
 use Rattle.tracing_appender_rolling.specs.Builders.{builder_names}
 use Rattle.tracing_appender_rolling.specs.folders.Contents.{Contents, IsSound, bytes_at}
-use Rattle.tracing_appender_rolling.specs.FilesByTries.{HandedInTurn}
 use Rattle.tracing_appender_rolling.specs.Looks.{Held}
 use Rattle.tracing_appender_rolling.specs.Appenders.{Holds}
 use Rattle.tracing_appender_rolling.specs.Sinks.{Handed, period_in, period_name, period_text}
 use Rattle.tracing_appender_rolling.specs.PrunedSinks.{PrunedSink, AgreesSink, pruned_at, pruned_text}
 use Rattle.tracing_appender_queue.specs.declared.worker.step.Batched.{Batched}
 use Rattle.tracing_appender_queue.specs.declared.worker.step.Written.{Written}
-use Rattle.tracing_appender_queue.specs.worker.Steps.{flushed_if, last_whole, missed_in, AllWhole, LinesTo, with_left}
+use Rattle.tracing_appender_queue.specs.worker.Steps.{missed_in, AllWhole, with_left}
 use Rattle.tracing_appender_queue.specs.worker.Workers.{Worker, StepTo, total}
 use Rattle.tracing_appender_queue.specs.queued.LineFates.{WaitingLines, more}
 use Rattle.tracing_appender_queue.specs.declared.queued.queued_sink.QueuedSink.{QueuedSink}
@@ -81,12 +80,6 @@ WorkMayChangePlaces = (names : ℕ → FileNames) (one other : ℕ) (m n : Momen
 -- lines that are handed over at one moment
 abbrev pub handed_at : Moment → List (List ℕ) → List Handed
 handed_at m lines = map (λ (line : List ℕ). record { line = line; moment = m }) lines
-
--- the lines of a worker's step, of which none found no memory, go in turn, as the files' list of tries has them, and so does the flush behind
--- the last one
-abbrev pub WorkGoesInTurn : Type 0
-WorkGoesInTurn = (names : FileNames) (m : Moment) (h last : Held) (lines : List (List ℕ)) (fates : List Written) → missed_in fates ≡ 0 →
-    LinesTo names m h lines fates last → HandedInTurn names h (handed_at m lines) (flushed_if (last_whole false fates) last)
 
 -- each file that retention left holds what its opening found and then, in order, the lines whose running moment lies in its period, and no
 -- other file has changed

@@ -5,8 +5,7 @@ use Rattle.tracing_appender_rolling.specs.declared.folders.fault.FolderError.{Fo
 use Rattle.tracing_appender_rolling.specs.declared.folders.fault.FolderError.TheVariants.{Fault, OutOfMemory}
 use Rattle.tracing_appender_rolling.specs.declared.appender.RollingFileAppender.{RollingFileAppender}
 use Rattle.tracing_appender_rolling.specs.Names.{FileNames}
-use Rattle.tracing_appender_rolling.specs.FilesByTries.{with_flush}
-use Rattle.tracing_appender_rolling.specs.folders.Contents.{Contents, IsSound}
+use Rattle.tracing_appender_rolling.specs.folders.Contents.{Contents, IsSound, flushed}
 use Rattle.tracing_appender_rolling.specs.Sinks.{PlainSink, with_handed, is_past}
 use Rattle.tracing_appender_rolling.specs.Looks.{Held}
 use Rattle.tracing_appender_rolling.specs.Appenders.{Holds}
@@ -62,6 +61,10 @@ LinesTo names m h (line ∷ lines) (fate ∷ fates) next = (middle : Held) × Li
 
 abbrev pub HandsOne : {D : Type 0} → (D → Option Contents) → FileNames → Moment → Held → List ℕ → Written → RollingFileAppender D → Type 0
 HandsOne contents names m h line fate a = (next : Held) × LineTo names m h line fate next × Holds contents a next
+
+-- the current file was flushed, or that was refused
+abbrev pub with_flush : Held → Held
+with_flush h = record h { contents = (flushed h.contents h.current).1 }
 
 -- a flush after a last line that was written whole, and none else
 abbrev pub flushed_if : Bool → Held → Held

@@ -1,6 +1,6 @@
 //! Laws over the definitions.
 
-ghost use Rattle.tracing_appender_queue.specs.queued.QueuedWork.{WorkGoesInTurn, WorkMayBeCut, WorkMayChangePlaces};
+ghost use Rattle.tracing_appender_queue.specs.queued.QueuedWork.{WorkMayBeCut, WorkMayChangePlaces};
 ghost use Rattle.tracing_appender_queue.specs.queued.QueueCalls.{QueueGoesByCalls};
 ghost use Rattle.tracing_appender_queue.specs.queued.ExactCounts.{DropsAreExact, SettlesCompose};
 
@@ -13,12 +13,6 @@ pub fn work_may_be_cut()
 /// Neighbouring steps of two sinks may change places, each with its own moment.
 pub fn work_may_change_places()
     ensures { WorkMayChangePlaces }
-{}
-
-/// The lines that a worker's step takes are handed to the files in turn, whatever the folder refuses and cuts short: the files go by
-/// their list of tries. No line may find no memory.
-pub fn work_goes_in_turn()
-    ensures { WorkGoesInTurn }
 {}
 
 /// Lines settle one after another as their lists do: two lists make a longer one, and each cut of a longer one makes two.

@@ -26,6 +26,39 @@ pub enum StepLine {
     Swap(SwapLine),
 }
 
+impl StepLine {
+    /// The lane that it names, where it names one.
+    pub fn lane(&self) -> Option<usize> {
+        match self {
+            StepLine::Whole(step) => lane_of(step),
+            StepLine::Record(record) => Some(record.lane),
+            StepLine::Swap(_) => None,
+        }
+    }
+
+    /// Whether it is a call on the queue of a sink.
+    pub fn is_of_queue(&self) -> bool {
+        matches!(self, StepLine::Whole(Step::Queue(_)))
+    }
+}
+
+/// The lane that a step names, where it names one.
+fn lane_of(step: &Step) -> Option<usize> {
+    match step {
+        Step::Event(call) => Some(call.lane),
+        Step::Enabled(call) => Some(call.lane),
+        Step::NewSpan(call) => Some(call.lane),
+        Step::Record(call) => Some(call.lane),
+        Step::RecordFollowsFrom(call) => Some(call.lane),
+        Step::Enter(call) | Step::Exit(call) => Some(call.lane),
+        Step::CloneSpan(call) | Step::TryClose(call) => Some(call.lane),
+        Step::SetDefault(call) => Some(call.lane),
+        Step::ResetDefault(call) => Some(call.lane),
+        Step::SetGlobalDefault(_) | Step::CloneHandle(_) | Step::Release(_) => None,
+        Step::Set(_) | Step::Queue(_) => None,
+    }
+}
+
 /// An output whose filter changes places with one of the shelf.
 #[derive(Clone, Copy, Drop)]
 pub struct SwapLine {

@@ -1,0 +1,4 @@
+use Rattle.span_trace.proofs.lanes.run_lanes.Given as goal
+
+abbrev pub ghosts-share : goal.ghosts-share
+ghosts-share g a = record { name = a.blank.name; parts = a.blank.parts }
