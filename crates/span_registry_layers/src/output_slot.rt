@@ -130,12 +130,7 @@ impl<L: Layer, F: Filter> OutputSlot<Filtered<L, F>> {
     }
 
     // Asks its filter of a callsite, and marks what it answers. It is told nothing.
-    pub(crate) fn ask_callsite(
-        &mut self,
-        metadata: &Metadata<'_>,
-        registry: &mut Registry,
-        at: At,
-    )
+    pub(crate) fn ask_callsite(&mut self, metadata: &Metadata<'_>, registry: &mut Registry, at: At)
         ensures asked { AsksCallsite F.answers (plain_metadata metadata.now) at registry.old self.old self.new }
         ensures same { registry.new ≡ registry.old }
     {

@@ -92,8 +92,7 @@ module _ {N E F : Type 0} where
         numbers_followed n line_of g (λ row. ns row.id.index) s.registry s.rows mid.registry mid.rows goes.0) in
         let padded = answers_padded g.answers a.metadata at s.registry s.rows answers first each in
         let told : map (passes_at verdicts) (numbers_in s.rows) ≡ answers =
-        ap (map (passes_at verdicts)) padded.0 ∙ answers_at verdicts 0 answers (drop (length answers) all_pass) padded.1 in
-        (
+        ap (map (passes_at verdicts)) padded.0 ∙ answers_at verdicts 0 answers (drop (length answers) all_pass) padded.1 in (
           each_by wide t.registry id t.rows same ∙
               (each_there wide id new t.rows there ∙ (ap (map (passes_at verdicts)) numbers ∙ told)),
           each_there wide id new s.rows there ∙ told,

@@ -9,7 +9,8 @@ ghost use Rattle.span_registry_layers.specs.Stacks.{RowsBecome, RowsInTurn, plai
 
 use crate::output_slot::SpanStep;
 use crate::output_slots::{
-    ask_callsite, ask_event, tell_dispatch, tell_event, tell_follows, tell_new_span, tell_record, tell_step,
+    ask_callsite, ask_event, tell_dispatch, tell_event, tell_follows, tell_new_span, tell_record,
+    tell_step,
 };
 use crate::parts::StackParts;
 use span_registry_layers_layers::{Filter, Filtered, Layer};

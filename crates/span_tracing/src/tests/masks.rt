@@ -3,8 +3,8 @@ ghost use Rattle.std.specs.Prelude.{◌≡◌};
 
 use crate::tests::common::MONDAY;
 use crate::{
-    EnabledCall, EventCall, FileStack, LineSettings, MemoryFolder, NewSpanCall, OutputKey, OutputSpec,
-    Parent, Reply, Site, SpanCall, Step, Trace, open_trace,
+    EnabledCall, EventCall, FileStack, LineSettings, MemoryFolder, NewSpanCall, OutputKey,
+    OutputSpec, Parent, Reply, Site, SpanCall, Step, Trace, open_trace,
 };
 use span_tracing_shared::{Closed, Mask, Shared};
 use std::alloc::{AllocGlobal, Global};
@@ -100,8 +100,11 @@ fn noted<L: Ledger + Send + Sync, R: Abort + AllocGlobal + Threads + Wait + Sync
         return Err("out of memory".into());
     };
     let mut seat = shared.seat(rt, 0).ok().ok_or("a seat")?;
-    let (some, last, none): ([bool; 3], [bool; 3], [bool; 3]) =
-        ([true, false, true], [false, false, true], [false; 3]);
+    let (some, last, none): ([bool; 3], [bool; 3], [bool; 3]) = (
+        [true, false, true],
+        [false, false, true],
+        [false; 3],
+    );
     let steps: [(Step, &[bool]); 10] = [
         (event(alloc, 0, debug), &last),
         (question(info), &some),
@@ -130,7 +133,10 @@ fn noted<L: Ledger + Send + Sync, R: Abort + AllocGlobal + Threads + Wait + Sync
     }
     assert_eq!(rt; at, 10);
     let passed = trace.stack(0).ok_or("a stack")?.passed_by();
-    assert_eq!(rt; (passed[0], passed[1], passed[2], passed[3]), (false, false, false, true));
+    assert_eq!(rt;
+        (passed[0], passed[1], passed[2], passed[3]),
+        (false, false, false, true)
+    );
     Ok(())
 }
 
@@ -144,7 +150,10 @@ fn a_stack_tells_what_each_output_answered_last(rt: HostRuntime) -> Result<(), F
     let mut trace = trace_of_three(rt.alloc())?;
     let info = Site::event(&mut trace, "app", "info", Level::INFO, &[])?;
     let debug = Site::event(&mut trace, "app", "debug", Level::DEBUG, &[])?;
-    assert_eq!(rt; trace.enabled(0, MONDAY, info.identifier), Reply::Enabled(true));
+    assert_eq!(rt;
+        trace.enabled(0, MONDAY, info.identifier),
+        Reply::Enabled(true)
+    );
     let asked = trace.stack(0).ok_or("a stack")?.passed_by();
     assert_eq!(rt; (asked[0], asked[1], asked[2]), (true, false, true));
     let told = trace.event(0, MONDAY, debug.identifier, Parent::Contextual, &[]);

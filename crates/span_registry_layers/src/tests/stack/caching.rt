@@ -106,7 +106,12 @@ fn a_question_asks_each_output_once(rt: HostRuntime) -> Result<(), Fail> {
     let mut stack = Stack::new(rt.alloc(), outputs).ok().ok_or("a stack")?;
     assert!(rt; stack.enabled(&event_metadata("app", Level::INFO), PLACE));
     for output in 0..3 {
-        let asked = stack.output(output).ok_or("an output")?.filter().asked.get();
+        let asked = stack
+            .output(output)
+            .ok_or("an output")?
+            .filter()
+            .asked
+            .get();
         assert_eq!(rt; (asked, stack.passed(output)), (1, Some(true)));
     }
     assert!(rt; !stack.enabled(&event_metadata("app", Level::DEBUG), PLACE));
