@@ -3,7 +3,7 @@ use Rattle.std.specs.Prelude.{ℕ, List, [], ◌∷◌, Bool, true, false, ◌&&
 use Rattle.std.specs.Str.{bytes_eq}
 use Rattle.span_trace_bench.specs.declared.bench.Bench.{Bench}
 use Rattle.span_trace_bench.specs.declared.bench.Bench.TheVariants.{DirectMemory, EventText, DirectFile, TwoOutputs, JsonMemory, Queued}
-use Rattle.span_trace_bench.specs.declared.bench.Bench.TheVariants.{DirectFile4, Live, LiveAll, Shared}
+use Rattle.span_trace_bench.specs.declared.bench.Bench.TheVariants.{Live, LiveAll, Shared}
 use Rattle.span_trace_bench.specs.declared.bench.Bench.TheVariants.{Never, NeverSkipped}
 use Rattle.span_trace_bench.specs.declared.bench.Bench.TheVariants.{Refused, Depth64, Open10k, Callsites1k, SpanCycle, SpanCycle10k}
 use Rattle.span_trace_bench.specs.declared.bench.Bench.TheVariants.{CloseOldest10k, Entered64, Open, FormatFull, FormatCompact}
@@ -13,7 +13,6 @@ abbrev pub name_of : Bench → List ℕ
 name_of DirectMemory = codes "direct_memory"
 name_of EventText = codes "event_text"
 name_of DirectFile = codes "direct_file"
-name_of DirectFile4 = codes "direct_file_4"
 name_of Live = codes "live"
 name_of LiveAll = codes "live_all"
 name_of Shared = codes "shared"
@@ -37,7 +36,7 @@ name_of FormatPretty = codes "format_pretty"
 name_of FormatJson = codes "format_json"
 
 abbrev pub all_benches : List Bench
-all_benches = DirectMemory ∷ EventText ∷ DirectFile ∷ DirectFile4 ∷ Live ∷ LiveAll ∷ Shared ∷ TwoOutputs ∷ JsonMemory ∷ Queued ∷
+all_benches = DirectMemory ∷ EventText ∷ DirectFile ∷ Live ∷ LiveAll ∷ Shared ∷ TwoOutputs ∷ JsonMemory ∷ Queued ∷
     Never ∷ NeverSkipped ∷ Refused ∷ Depth64 ∷ Open10k ∷ Callsites1k ∷ SpanCycle ∷ SpanCycle10k ∷ CloseOldest10k ∷ Entered64 ∷ Open ∷
     FormatFull ∷ FormatCompact ∷ FormatPretty ∷ FormatJson ∷ []
 

@@ -5,7 +5,6 @@ ghost use Rattle.std.specs.Option.{option_map};
 ghost use Rattle.span_trace_bench.specs.Names.{name_of, bench_named};
 
 use crate::fault::Fault;
-use crate::four::THREADS;
 use crate::stage::{DETAIL, EVENT, NOISE, Stage};
 use event_formatter::{Json, LineFormat, Pretty};
 use span_tracing::{Folder, LiveQueue};
@@ -19,8 +18,6 @@ pub enum Bench {
     EventText,
     /// Events in a span, to a folder of the system.
     DirectFile,
-    /// The same by four threads, a quarter each and each in a span of its own, through one trace under a lock.
-    DirectFile4,
     /// Events in a span, to a live queue with room for 128,000 lines, which drops what comes when it is full.
     Live,
     /// Events in a span, to a live queue with room for all of them.
@@ -66,10 +63,9 @@ pub enum Bench {
 }
 
 /// The benches whose sums are shown: all but the one that differs from another by its folder alone.
-pub(crate) const SHOWN: [Bench; 24] = [
+pub(crate) const SHOWN: [Bench; 23] = [
     Bench::DirectMemory,
     Bench::EventText,
-    Bench::DirectFile4,
     Bench::Live,
     Bench::LiveAll,
     Bench::Shared,
@@ -102,7 +98,6 @@ impl Bench {
             "direct_memory" => Some(Bench::DirectMemory),
             "event_text" => Some(Bench::EventText),
             "direct_file" => Some(Bench::DirectFile),
-            "direct_file_4" => Some(Bench::DirectFile4),
             "live" => Some(Bench::Live),
             "live_all" => Some(Bench::LiveAll),
             "shared" => Some(Bench::Shared),
@@ -136,7 +131,6 @@ impl Bench {
             Bench::DirectMemory => "direct_memory",
             Bench::EventText => "event_text",
             Bench::DirectFile => "direct_file",
-            Bench::DirectFile4 => "direct_file_4",
             Bench::Live => "live",
             Bench::LiveAll => "live_all",
             Bench::Shared => "shared",
@@ -212,7 +206,6 @@ impl Bench {
             Bench::SpanCycle10k => stage.scatter(many),
             Bench::CloseOldest10k => stage.scatter(many),
             Bench::Entered64 => stage.occupy(64),
-            Bench::DirectFile4 => stage.occupy(THREADS as u64),
             Bench::SpanCycle => Ok(()),
             Bench::Open => Ok(()),
             _ => stage.nest(1),

@@ -4,7 +4,6 @@
 mod bench;
 mod counting;
 mod fault;
-mod four;
 mod lines;
 mod live;
 mod program;

@@ -3,7 +3,6 @@
 use crate::bench::{Bench, SHOWN};
 use crate::counting::CountingFolder;
 use crate::fault::Fault;
-use crate::four::time_four;
 use crate::lines::{Counter, Lines};
 use crate::live::time_live;
 use crate::shared::count_shared;
@@ -43,16 +42,6 @@ fn sum_on(alloc: Global, bench: Bench) -> Result<Sum, Fault> {
     })
 }
 
-/// The sum of what four threads told.
-fn sum_of_four<R: Clock + AllocGlobal + Threads + Wait + Sync>(rt: &R) -> Result<Sum, Fault> {
-    let alloc = rt.alloc();
-    let (_times, stage) = time_four(rt, alloc, SMALL, CountingFolder::new(alloc), "counted")?;
-    Ok(Sum {
-        counted: stage.counted()?,
-        spans: stage.spans,
-    })
-}
-
 /// The sum of what a worker wrote.
 fn sum_of_live<R: Clock + AllocGlobal + Threads + Wait + Copy + Send + Drop + 'static>(
     rt: &R,
@@ -83,7 +72,6 @@ fn sum_of<R: Clock + AllocGlobal + Threads + Wait + Sync + Copy + Send + Drop + 
         return sum_of_lines(alloc, shape);
     }
     match bench {
-        Bench::DirectFile4 => sum_of_four(rt),
         Bench::Live | Bench::LiveAll => sum_of_live(rt, bench),
         Bench::Shared => Ok(one_span(count_shared(rt, alloc, SMALL)?)),
         _ => sum_on(alloc, bench),

@@ -3,7 +3,6 @@
 use crate::bench::Bench;
 use crate::counting::CountingFolder;
 use crate::fault::Fault;
-use crate::four::time_four;
 use crate::lines::Lines;
 use crate::live::time_live;
 use crate::shared::time_shared;
@@ -97,7 +96,6 @@ pub(crate) fn time<R: Clock + AllocGlobal + Threads + Wait + Sync + Copy + Send 
         Bench::DirectFile => {
             time_on(rt, bench, count, stage_over(alloc, bench, folder, prefix)?)
         }
-        Bench::DirectFile4 => Ok(time_four(rt, alloc, count, folder, prefix)?.0),
         Bench::Live | Bench::LiveAll => {
             Ok(time_live(rt, alloc, bench, count, folder, prefix)?.0)
         }
