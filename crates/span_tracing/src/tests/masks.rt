@@ -83,6 +83,27 @@ fn is_mask(mask: &Mask, passed: &[bool]) -> bool {
     is
 }
 
+/// Whether a journal has these steps, each with its mask, and the trace what the last question left.
+fn has_noted(
+    rt: &impl Abort,
+    closed: &Closed<LevelTrace>,
+    steps: &[(Step, &[bool])],
+) -> Result<(), Fail> {
+    assert_eq!(rt; closed.journal.len(), steps.len());
+    let mut at = 0;
+    for entry in closed.journal.as_slice() {
+        let (step, mask) = steps.get(at).ok_or("a step")?;
+        assert!(rt; entry.step.is_same(step) && is_mask(&entry.mask, mask));
+        at += 1;
+    }
+    let passed = closed.trace.stack(0).ok_or("a stack")?.passed_by();
+    assert_eq!(rt;
+        (passed[0], passed[1], passed[2], passed[3]),
+        (false, false, false, true)
+    );
+    Ok(())
+}
+
 fn noted<L: Ledger + Send + Sync, R: Abort + AllocGlobal + Threads + Wait + Sync>(
     rt: &R,
     blank: Blank,
@@ -123,21 +144,10 @@ fn noted<L: Ledger + Send + Sync, R: Abort + AllocGlobal + Threads + Wait + Sync
     }
     let mut seats = Vec::new(alloc);
     seats.push(seat)?;
-    let Ok(Closed { journal, trace, .. }) = shared.close(seats) else {
-        return Err("torn".into());
-    };
-    let mut at = 0;
-    for entry in journal.as_slice() {
-        assert!(rt; entry.step.is_same(&steps[at].0) && is_mask(&entry.mask, steps[at].1));
-        at += 1;
+    match shared.close(seats) {
+        Ok(closed) => has_noted(rt, &closed, &steps),
+        Err(_) => Err("torn".into()),
     }
-    assert_eq!(rt; at, 10);
-    let passed = trace.stack(0).ok_or("a stack")?.passed_by();
-    assert_eq!(rt;
-        (passed[0], passed[1], passed[2], passed[3]),
-        (false, false, false, true)
-    );
-    Ok(())
 }
 
 #[test]
